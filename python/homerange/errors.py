@@ -9,6 +9,7 @@ from pathlib import Path
 from typing import Iterator, NoReturn
 
 LONGEST = 500  # signs of what is said of an argument
+BYTES = (bytes, bytearray, memoryview)  # neither texts nor numbers, though Python makes either of them
 UNPRINTABLE = re.compile("[\x00-\x1f\x7f-\x9f\u2028\u2029]")
 
 
@@ -102,6 +103,8 @@ def truth_of(value: object, what: str) -> bool:
 
 def check_file(path: Path) -> Path:
     """A file that is there; what is none is refused."""
+    if os.path.isdir(path):
+        raise FileError(one_line(f"{path} is a folder, and a file is wanted"))
     if not os.path.isfile(path):
         raise FileError(one_line(f"{path}: there is no such file"))
     return path
@@ -129,4 +132,4 @@ def path_of(value: object, what: str) -> Path:
     """A path that was given; what is none is refused."""
     if not isinstance(value, (str, os.PathLike)) or not isinstance(text := os.fspath(value), str) or "\0" in text:
         refuse(f"{what}={value!r} is no path")
-    return Path(text)
+    return Path(text) if text else refuse(f"{what}={value!r} is no path: it is empty")

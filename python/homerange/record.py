@@ -199,9 +199,10 @@ def record_in(folder: Path) -> Optional[Record]:
     return read_record(path) if path.is_file() else None
 
 
-def difference_from_record(record: Record, fixes: dict[str, int]) -> str | None:
-    """How the animals and numbers of fixes of a report are not those that the record has; None where they are."""
-    wanted = record.used
+def difference_from_record(record: Record, fixes: dict[str, int], is_part: bool = False) -> str | None:
+    """How the animals and numbers of fixes of a report, which may be one of a part of them, are not those that the record has; None
+    where they are."""
+    wanted = {name: used for name, used in record.used.items() if name in fixes or not is_part}
     if not record.tracks or wanted == fixes:
         return None
     name = sorted({*wanted.items()} ^ {*fixes.items()})[0][0]

@@ -125,6 +125,18 @@ def test_paths(splitter, ranges, tmp_path, monkeypatch):
     is_taken_or_refused(lambda value: write_page(ranges, value))
 
 
+@pytest.mark.parametrize("value", [b"2", bytearray(b"2"), memoryview(b"2"), numpy.bytes_(b"2")])
+def test_bytes_are_neither_numbers_nor_texts(ranges, report, value):
+    pytest.importorskip("matplotlib").use("Agg")
+    for call in (lambda: home_range(FRAME, value), lambda: home_range(FRAME, [value]), lambda: ranges.polygons(value), lambda: home_range(FRAME, by=value),
+                 lambda: plot_ranges(ranges, level=value), lambda: plot_curve(ranges, animals=value), lambda: home_range(FRAME, by=lambda _: value),
+                 lambda: read_fixes(FRAME, na=value), lambda: home_range(FRAME, jobs=value), lambda: read_report(report, files=value)):
+        with pytest.raises(HomeRangeError):
+            call()
+    with pytest.raises(HomeRangeError, match="^by=bytearray.* is none of 'year'"):
+        home_range(FRAME, by=bytearray(len(FRAME)))
+
+
 def test_long_values_are_shown_in_part():
     with pytest.raises(HomeRangeError) as caught:
         home_range(FRAME, unit="x" * 5000)

@@ -183,13 +183,21 @@ def test_columns_that_fixes_were_read_from_may_not_change_alone(projected, title
         assert home_range(moved).left_out().empty
 
 
+@pytest.mark.parametrize("own, other, title", [
+    ("Visible", "visible", "visible"), ("manually.marked.outlier", "manually-marked-outlier", "manually-marked-outlier")])
+def test_two_spellings_of_a_mark_that_are_added_are_refused(splitter, own, other, title):
+    fixes = read_fixes(frame_of(a=SQUARE))
+    for call in (home_range, read_fixes):
+        with pytest.raises(FrameError, match=f"column 5 '{own}' and column 6 '{other}' both fit {title}: rename one") as fault:
+            call(fixes.assign(**{own: 1, other: 0}))
+        assert fault.value.kind == "ambiguous"
+
+
 @pytest.mark.parametrize("there, added, said", [
     ({"use": 1}, {"visible": 0}, "'visible' was added to the fixes, and is not read, since 'use' goes before it: change that, or drop 'visible'"),
     ({"Use": 1}, {"manually-marked-outlier": 1}, "'manually-marked-outlier' was added to the fixes, and is not read, since 'Use' goes before it: "
      "change that, or drop 'manually-marked-outlier'"),
     ({"use": 1}, {"outlier": 1}, "'outlier' was added .*, since 'use' goes before"), ({"use": 1}, {"event.visible": 0}, "'event.visible' was added"),
-    ({}, {"Visible": 0, "visible": 1}, "'Visible' was added to the fixes, and is not read, since 'visible' goes before it: change that"),
-    ({}, {"manually.marked.outlier": 1, "manually-marked-outlier": 0}, "'manually.marked.outlier' was added .*, since 'manually-marked-outlier' goes"),
     ({}, {"sensor-type-id": 82798, "sensor-type": "gps"}, "'sensor-type-id' was added .*, since 'sensor-type' goes before it"),
     ({"use": 1, "visible": 1}, {"visible": 0}, "row [0145].*: 'visible' was changed since this fix was read, and is not read, since 'use' goes before it: "
      "change that, or drop 'visible'"),
@@ -312,17 +320,47 @@ def test_frames_of_other_values_are_printed_plainly(fixes, change):
     assert repr(other) == repr(pandas.DataFrame(other)) and "<pre>" not in other._repr_html_()
 
 
-@pytest.mark.parametrize("text", [
-    lambda times: times.dt.strftime("%Y-%m-%d %H:%M"), lambda times: times.dt.tz_convert("UTC").dt.strftime("%Y-%m-%d %H:%M").astype("category"),
-    lambda times: times.dt.date])
-def test_times_of_fixes_that_became_text_have_no_zone(fixes, text):
-    said = r"^the times of fixes have no zone any more: give them one, as by pandas.to_datetime\(fixes\['time'\]\).dt.tz_localize\('Asia/Tokyo'\)$"
-    with pytest.raises(FrameError, match=said):
-        home_range(fixes.assign(time=text(fixes["time"])))
+@pytest.mark.parametrize("other, words", [
+    (lambda times: times.dt.strftime("%Y-%m-%d %H:%M"), {}), (lambda times: times.dt.strftime("%Y-%m-%d %H:%M").astype("category"), {}),
+    (lambda times: times.dt.tz_localize(None), {}), (lambda times: times.dt.tz_localize(None).astype(object), {}),
+    (lambda times: times.dt.tz_localize(None).dt.to_period("min"), {}), (lambda times: times.dt.tz_convert(None), {"tz": "UTC"}),
+    (lambda times: times.dt.strftime("%d.%m.%Y %H:%M"), {"time_format": "%d.%m.%Y %H:%M"}),
+    (lambda times: pandas.Series([*times.dt.tz_localize(None).to_numpy()], dtype=object), {}),
+    (lambda times: (times.astype("int64") // 10 ** 9).astype(str), {}), (lambda times: times.dt.date, None), (lambda times: times.dt.strftime("%H:%M"), None),
+    (lambda times: times.dt.tz_convert("UTC").dt.strftime("%Y-%m-%d %H:%M UTC"), None), (lambda times: times.dt.tz_localize(None).where(times.isna()), None)])
+def test_times_of_fixes_that_have_no_zone_any_more(splitter, other, words):
+    night = pandas.date_range("2024-10-26 23:30", periods=4, freq="30min", tz="UTC")  # whose last hour comes twice
+    fixes = read_fixes(frame_of(a=SQUARE).drop(columns="timestamp").assign(time=night), zone="33N", tz="Europe/Ljubljana")
+    changed = fixes.assign(time=other(fixes["time"]))
+    said = "^the times of fixes have no zone any more: keep those that read_fixes gave, or read pandas.DataFrame.fixes. as a new table, with tz for"
+    for call in (home_range, read_fixes):
+        with pytest.raises(FrameError, match=said) as fault:
+            call(changed)
+        assert fault.value.kind == "time"
+    assert home_range(changed.assign(time=fixes["time"])).left_out().empty
+    if words is not None:
+        with warnings.catch_warnings():
+            warnings.simplefilter("ignore")
+            again = read_fixes(pandas.DataFrame(changed), **{"tz": "Europe/Ljubljana", "zone": "33N", **words})
+        assert again["time"].dt.tz_convert("UTC").tolist() == [*night]
+
+
+def test_times_of_fixes_that_became_text_with_a_zone_are_read(fixes):
     local = fixes["time"].dt.strftime("%Y-%m-%d %H:%M")
     for same in (pandas.to_datetime(local).dt.tz_localize("Asia/Tokyo"), fixes["time"].astype(str), fixes["time"].dt.strftime("%Y-%m-%dT%H:%M%z"),
                  fixes["time"].astype("int64") // 10 ** 9):
         assert home_range(fixes.assign(time=same)).curve()["time"].tolist() == home_range(fixes).curve()["time"].tolist()
+
+
+@pytest.mark.parametrize("change, said", [
+    (lambda times: times.astype("int64"), "^row 0: time is '1709251200000000000', which is no second since 1970"),
+    (lambda times: times.astype("int64").astype("Int64"), "^row 0: time is '1709251200000000000', which is no second since 1970"),
+    (lambda times: pandas.to_timedelta(times.astype("int64")), "^row 0: time is of the class [Tt]imedelta"),
+    (lambda times: pandas.Series([*times.dt.tz_convert("UTC").dt.tz_localize(None).to_numpy()], dtype=object), "^the times of fixes have no zone any more")])
+def test_times_of_another_class_are_read_again(fixes, change, said):
+    with pytest.raises(FrameError, match=said) as fault:
+        home_range(fixes.assign(time=change(fixes["time"])))
+    assert fault.value.kind == "time"
 
 
 def test_a_level_of_other_animals_is_refused():

@@ -229,6 +229,14 @@ def test_tables_have_the_names_and_the_order_of_the_report(ranges, tmp_path):
     assert 'data-animal="a_b"' in page and "a/b" not in page.split("When the fixes")[0]
 
 
+def test_seconds_without_a_date_stay_whole_numbers_in_tables(tmp_path):
+    frame = frame_of(a=[(0, 0), (100, 0), (0, 100), (1, 1)]).assign(second=[5, 3605, 7205, 10805]).drop(columns="timestamp")
+    home_range(frame, 100).evidence(tmp_path / "hand-in")
+    rows = {name: (tmp_path / "hand-in" / f"{name}.csv").read_text().splitlines()[1] for name in ("summary", "animals")}
+    assert rows["summary"].startswith("a,5,10805,4,100,")
+    assert rows["animals"] == "a,4,4,5,10805,0.125,1.0,1.0,0.5,3,7205,0.0,0.0"
+
+
 def test_a_name_is_no_formula_in_tables(tmp_path):
     names = ["=1+1", "+7", "-7", "@sum", "'quoted", "it's", "a=b"]
     cells = ["''quoted", "'+7", "'-7", "'=1+1", "'@sum", "a=b", "it's"]  # in the order of files

@@ -1,6 +1,8 @@
 """Fixes that were read: which rows of a frame they are, what they say, and that they can be chosen, sorted and bound."""
+import datetime
 import pickle
 import warnings
+from decimal import Decimal
 from pathlib import Path
 
 import numpy
@@ -174,6 +176,17 @@ def test_numbers_that_are_not_whole_are_no_names(splitter, names):
     assert quietly(read_fixes, frame_of(a=SQUARE).assign(animal=[*"aabb"], note=names))["animal"].nunique() == 2
 
 
+@pytest.mark.parametrize("value, said", [
+    (numpy.inf, "inf, a number that is not whole"), (-numpy.inf, "-inf, a number that is not whole"), (numpy.float32("inf"), "inf, a number"),
+    (Decimal("Infinity"), "inf, a number that is not whole"), (numpy.timedelta64(3600, "s"), "01:00:00, a time"), (datetime.time(10), "10:00:00, a time"),
+    (numpy.datetime64("20000-01-01"), "20000-01-01, a time"), (datetime.timedelta(hours=1), "01:00:00, a time")])
+def test_what_is_no_name(splitter, value, said):
+    for names in (pandas.Series(["b", value, "b", "b"], dtype=object), pandas.Series([None, value, value, value])):
+        with pytest.raises(FrameError, match=f"^row 1: animal is {said}") as fault:
+            quietly(read_fixes, frame_of(a=SQUARE).assign(animal=names), skip_unnamed=True)
+        assert (fault.value.kind, fault.value.record) == ("name", 2)
+
+
 @pytest.mark.parametrize("title", ["timestamp_utc", "time_local", "UTC_datetime", "local time"])
 @pytest.mark.parametrize("tz", [None, "Asia/Tokyo"])
 def test_moments_are_the_time_whatever_their_title_says(splitter, title, tz):
@@ -338,3 +351,18 @@ def test_wrong_systems_are_refused_or_said(splitter):
     assert read_fixes(utm, crs="EPSG:32633").reading.zone == "33N"
     with pytest.raises(FrameError, match="the coordinates are of the zone 33N, and the CRS .* none of UTM: give one of the two"):
         read_fixes(utm, crs="EPSG:3035")
+
+
+def test_points_are_refused_as_ranges_are(splitter):
+    geopandas = pytest.importorskip("geopandas")
+    fixes = read_fixes(frame_of(a=[(500_000 + east, 5_000_000 + north) for east, north in SQUARE]), zone="33N")
+    for odd in (fixes.drop(columns="easting"), fixes.assign(northing="x"), fixes[[*fixes.columns, "northing"]], fixes.assign(easting=numpy.inf),
+                fixes.assign(time=fixes["time"].dt.date), fixes.assign(easting=[[1]] * 4)):
+        with pytest.raises(FrameError) as wanted:
+            home_range(odd)
+        with pytest.raises(FrameError) as found:
+            odd.points()
+        assert (str(found.value), found.value.kind) == (str(wanted.value), wanted.value.kind)
+    for same in (fixes.astype({"easting": str}), fixes.convert_dtypes(), fixes.astype({"northing": object})):
+        assert geopandas.GeoSeries(same.points().geometry).geom_equals(fixes.points().geometry).all()
+    assert fixes.iloc[:0].points().empty

@@ -121,3 +121,16 @@ def test_a_crs_is_of_metres_that_have_a_way_to_degrees(splitter, crs, said):
         else:
             with pytest.raises(FrameError, match=f"^{said}"):
                 call()
+
+
+def test_points_whose_sides_are_the_other_way_are_turned():
+    frame = geo(4326, [(46.0 + at / 1000, 96.0 + at * at / 1000) for at in range(5)])
+    said = r"^row 0: there is no place of longitude 46 and latitude 96: are x and y of the points the other way\? frame.set_geometry\(.*\) turns them$"
+    with pytest.raises(FrameError, match=said):
+        home_range(frame)
+    turned = frame.set_geometry(geopandas.points_from_xy(frame.geometry.y, frame.geometry.x, crs=frame.crs))
+    with told("^coordinates are rounded"):
+        assert home_range(turned).crs == "EPSG:32647"
+    columns = frame_of(a=[(46.0, 96.0)] * 3).rename(columns={"easting": "lon", "northing": "lat"})
+    with pytest.raises(FrameError, match="are their columns to be named the other way, by lon and lat[?]$"):
+        home_range(columns)

@@ -242,3 +242,32 @@ def test_values_for_the_records_of_a_file_are_refused(tmp_path):
         with pytest.raises(FrameError, match="^by goes by rows, and fixes of a file stand in another order: read it before by read_fixes"):
             home_range(path, by=by)
     assert home_range(path, by=lambda fixes: fixes["easting"] > 2).groups
+
+
+def test_a_title_is_that_of_the_column_of_the_frame(frame):
+    collars = pandas.Series(["x", "y"] * 40, index=frame.index)
+    named, read = frame.assign(collar=frame["animal"], animal=collars), {"animal": "collar"}
+    moments = frame.rename(columns={"timestamp": "t2"}).assign(time=collars)
+    sides = frame.rename(columns={"easting": "x_e", "northing": "y_n"}).assign(easting=1, northing=collars)
+    for table, by, options in ((named, "animal", read), (moments, "time", {"time": "t2"}), (sides, "northing", {"easting": "x_e", "northing": "y_n"})):
+        with pytest.warns(HomeRangeNote, match="^not in the fixes, which have columns of these titles: "):
+            found = home_range(table, 100, by=by, **options)
+        assert areas(found) == hectares_of(frame, collars)
+    assert [*areas(home_range(frame, 100, by="animal"))] == [("fox", "fox"), ("otter", "otter")]
+    geopandas = pytest.importorskip("geopandas")
+    points = geopandas.GeoDataFrame(sides, geometry=geopandas.points_from_xy(frame["easting"], frame["northing"]), crs=32633)
+    with pytest.warns(HomeRangeNote, match="^not in the fixes, which have columns of these titles: "):
+        assert areas(home_range(points, 100, by="northing")) == hectares_of(frame, collars)
+
+
+def test_columns_of_a_file_are_no_groups(frame, tmp_path):
+    path = tmp_path / "fixes.csv"
+    frame.assign(sex="f", collar=frame["animal"]).to_csv(path, index=False)
+    said = "^by: the column '{}' of a file is not kept: read the file by pandas before, as by pandas.read_csv"
+    for table, by, options in ((path, "sex", {}), (read_fixes(path), "sex", {}), (path, "animal", {"animal": "collar"})):
+        with pytest.raises(FrameError, match=said.format(by)):
+            home_range(table, by=by, **options)
+    assert len(home_range(pandas.read_csv(path), by="sex").animals) == 2
+    assert home_range(path, by="animal").animals == ["fox fox", "otter otter"]
+    with pytest.raises(FrameError, match="^by: there is no column 'age', and it is none of 'year'"):
+        home_range(path, by="age")

@@ -11,7 +11,7 @@ from exact import area2, cloud, hull, nearest
 from frames import frame_of, noted
 
 import homerange
-from homerange import home_range, write_layers
+from homerange import FileError, home_range, write_layers
 from homerange.write.layers import put_layers
 
 geopandas = pytest.importorskip("geopandas")
@@ -92,13 +92,6 @@ def test_times_are_those_of_utc(tmp_path):
         ("2024-04-30T22:00:02.000Z",), ("2024-04-30T23:00:00.000Z",)]
 
 
-def test_times_after_2262_are_missing(tmp_path):
-    frame = frame_of(a=SQUARE).drop(columns="timestamp").assign(second=[0, 1, 2, 2 ** 40])
-    put_layers(home_range(frame, 100), tmp_path / "ranges.gpkg")
-    assert query(tmp_path / "ranges.gpkg", "SELECT datetime(first), last FROM ranges") == [("1970-01-01 00:00:00", None)]
-    assert query(tmp_path / "ranges.gpkg", "SELECT time FROM fixes WHERE n = 4") == [(None,)]
-
-
 def test_without_a_reference_system_it_is_an_undefined_one_of_metres(tmp_path):
     put_layers(home_range(frame_of(a=SQUARE), 100), tmp_path / "ranges.gpkg")
     assert query(tmp_path / "ranges.gpkg", "SELECT table_name, srs_id FROM gpkg_contents WHERE data_type = 'features'") == [
@@ -159,3 +152,29 @@ def test_write_layers_says_what_has_no_area(tmp_path):
                             "not in ranges.gpkg, since they have no area at 100 %: b"]
     with pytest.raises(homerange.FrameError, match="path=5 is no path"):
         write_layers(ranges, 5)
+
+
+@pytest.mark.parametrize("start", [0, 2 ** 34])
+def test_seconds_without_a_date_are_whole_numbers(tmp_path, start):
+    frame = frame_of(fox=SQUARE, a=SQUARE).drop(columns="timestamp").assign(second=[start, start + 1, start + 2, start + 3] * 2)
+    ranges = home_range(frame, 100)
+    write_layers(ranges, tmp_path / "ranges.gpkg")
+    summary = ranges.summary()
+    assert query(tmp_path / "ranges.gpkg", "SELECT first, last FROM ranges") == [*zip(summary["first"], summary["last"])] == [(start, start + 3)] * 2
+    assert query(tmp_path / "ranges.gpkg", "SELECT time FROM fixes") == [(second,) for second in frame["second"]]
+    for layer, titles in (("ranges", ["first", "last"]), ("fixes", ["time"])):
+        types = {title: kind for _, title, kind, *_ in query(tmp_path / "ranges.gpkg", f"PRAGMA table_info({layer})")}
+        assert {types[title] for title in titles} == {"INTEGER"}
+
+
+def test_a_file_that_cannot_be_written_is_refused(herd, tmp_path, monkeypatch):
+    ranges = home_range(frame_of(**herd), 100)
+    with pytest.raises(FileError, match="^/proc/ranges.gpkg: [A-Z][A-Za-z ]+$"):
+        write_layers(ranges, "/proc/ranges.gpkg")
+
+    def full(*_):
+        raise sqlite3.OperationalError("database or disk is full")
+
+    monkeypatch.setattr("homerange.write.layers.put_layers", full)
+    with pytest.raises(FileError, match="ranges.gpkg: database or disk is full$"):
+        write_layers(ranges, tmp_path / "ranges.gpkg")

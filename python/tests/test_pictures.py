@@ -233,3 +233,12 @@ def test_what_cannot_be_drawn_is_refused(wrong, text):
     if "by" not in wrong:
         with pytest.raises(FrameError, match=re.escape(text)):
             plot_ranges(herd(2), **wrong)
+
+
+@pytest.mark.parametrize("kind", ["3d", "polar", "mollweide"])
+def test_axes_of_another_projection_are_refused(kind):
+    ranges, axes = herd(2), pyplot.figure().add_subplot(projection=kind)
+    for draw in (plot_ranges, plot_curve):
+        with pytest.raises(FrameError, match=f"^ax are axes of the projection '{kind}', and plain ones are wanted, as those of pyplot.subplots"):
+            draw(ranges, axes)
+        draw(ranges, pyplot.subplots()[1])

@@ -1,4 +1,5 @@
 """Reports that were made elsewhere: what is read, and what is refused."""
+import functools
 import re
 import subprocess
 from pathlib import Path
@@ -7,6 +8,7 @@ import numpy
 import pandas
 import pytest
 from exact import area2, cloud, hull, nearest
+from frames import frame_of
 
 import homerange
 from homerange import FileError, FrameError, ReportError, read_report
@@ -244,7 +246,7 @@ def test_what_is_no_text_is_no_report(tmp_path):
 
 def test_a_file_that_is_not_there_is_refused(files, tmp_path):
     report, none = report_of(files), tmp_path / "none"
-    for call in (lambda: read_report(none), lambda: read_report(tmp_path), lambda: read_report(report, files=[none]), lambda: read_report(report, record=none)):
+    for call in (lambda: read_report(none), lambda: read_report(report, files=[none]), lambda: read_report(report, record=none)):
         with pytest.raises(FileError, match="^.*: there is no such file$"):
             call()
 
@@ -258,3 +260,63 @@ def test_the_examples_in_the_repository():
     points = [*zip(frame["easting"].tolist(), frame["northing"].tolist())]
     found = homerange.home_range(frame)
     assert found.corners(95) == {"fox": hull(nearest(points, 95))}
+
+
+@pytest.fixture
+def folder(files, tmp_path):
+    """A folder of evidence of both tracks, and a call that makes another one."""
+    def make(name, **options):
+        frame = frame_of(**{**TRACKS, **options.pop("tracks", {})})
+        homerange.home_range(frame, zone="33N", **options).evidence(tmp_path / name)
+        return tmp_path / name / "tracks" / "split.txt"
+
+    return make
+
+
+def test_a_record_that_is_none_of_a_report_or_its_files_is_refused(folder, tmp_path):
+    own = folder("own")
+    report, files = tmp_path / "own" / "report.txt", [*own.parent.glob("*.csv")]
+    assert read_report(report, files=files, record=own, crs=32633).crs == 32633
+    assert read_report(report, files=files, record=own).crs == "EPSG:32633"
+    moved = {"old boar": [(east, north + 1) for east, north in TRACKS["old boar"]]}
+    for record, said in ((folder("fewer", tracks={"vixen": TRACKS["vixen"][:-1]}), "the report has 40 fixes of vixen, and split.txt has 39: was a track"),
+                         (folder("dm", unit="dm"), "the report is in m, and split.txt in dm: take the record of the tracks of this report$")):
+        for paths in ((), files):
+            with pytest.raises(FrameError, match=said):
+                read_report(report, files=paths, record=record)
+    with pytest.raises(FrameError, match="^no file is the track of old boar of which split.txt has the checksum: take the record of these files"):
+        read_report(report, files=files, record=folder("moved", tracks=moved))
+
+
+def test_what_the_record_says_otherwise_is_refused(folder, tmp_path):
+    own = folder("own")
+    read = functools.partial(read_report, tmp_path / "own" / "report.txt", record=own)
+    for crs in (32632, "EPSG:32632", "EPSG:3035"):
+        with pytest.raises(FrameError, match=rf"^crs={crs} is not EPSG:32633 \(WGS 84 / UTM zone 33N\), which the coordinates are of, by split.txt: leave"):
+            read(crs=crs)
+    with pytest.raises(FrameError, match=r"^shift=\(1000000, 0\) is not \(0, 0\), by which split.txt has coordinates shifted: leave shift out$"):
+        read(shift=(1_000_000, 0))
+    own.write_text(own.read_text("utf-8").replace("\nzone,33N\n", "\nzone,none\nshift,1000000,0\n"), "utf-8")
+    assert read(shift=(1_000_000, 0)).shift == read().shift == (1_000_000, 0) and read(crs=3035).crs == 3035
+
+
+def test_what_is_no_system_of_a_report(files):
+    report = report_of(files)
+    for crs in (4326, 2263, 3857):
+        with pytest.raises(FrameError, match="^(the CRS|areas in the CRS) .*: name that of the coordinates of the report, which are in metres$"):
+            read_report(report, crs=crs)
+    for none in (None, b"x", 5):
+        with pytest.raises(FrameError, match=r" are not several paths, such as \['fox.csv'\]: leave files out where there are none$"):
+            read_report(report, files=none)
+
+
+def test_a_folder_and_an_empty_path_are_no_file(files, tmp_path):
+    report = report_of(files)
+    for call in (lambda path: read_report(path), lambda path: read_report(report, files=[path]), lambda path: read_report(report, record=path)):
+        with pytest.raises(FileError, match=f"^{tmp_path} is a folder, and a file is wanted$"):
+            call(tmp_path)
+        with pytest.raises(FrameError, match="='' is no path: it is empty$"):
+            call("")
+    for call in (homerange.home_range, homerange.read_fixes, read_report(report).evidence):
+        with pytest.raises(FrameError, match="='' is no path: it is empty$"):
+            call("")

@@ -430,3 +430,19 @@ def test_longitude_and_latitude_are_projected_into_a_zone_that_is_named():
         found = home_range(frame, zone="33N")
     assert found.fixes("a").tolist() == [[562000, 5134001], [562104, 5134221]]
     assert found.crs == "EPSG:32633"
+
+
+@pytest.mark.parametrize("zone, helps", [
+    ("Asia/Tokyo", "make days of it, as by .dt.date, and name its zone, as by tz='Asia/Tokyo'$"), ("UTC", "make days of it, as by .dt.date$"),
+    (timezone(timedelta(hours=9)), "make days of it, as by .dt.date, and name the zone of its clock by tz$")])
+def test_days_of_moments_keep_their_zone(zone, helps):
+    frame = frame_of(a=SQUARE)
+    local = frame.pop("timestamp").dt.tz_convert(zone)
+    table = frame.assign(date=local.dt.normalize(), time=local.dt.time)
+    for words in ({}, {"time": "date,time"}):
+        with pytest.raises(FrameError, match=f": date has moments: {helps}"):
+            home_range(table, **words)
+    with pytest.raises(FrameError, match=": date has moments: make days of it, as by .dt.date$"):
+        home_range(table, time="date,time", tz="Asia/Tokyo")
+    own = table.assign(date=table["date"].dt.date)
+    assert home_range(own, time="date,time", tz="UTC" if zone == "UTC" else "Asia/Tokyo").curve()["time"].tolist() == local.tolist()

@@ -10,6 +10,13 @@ check_path <- function(path) {
   if (!dir.exists(dirname(path))) refuse("file", path, ": there is no such folder")
 }
 
+# Refuses what is no file that is there.
+check_file <- function(path, what) {
+  if (!nzchar(path)) refuse("option", argument_text(what, path), " is no path: it is empty")
+  if (dir.exists(path)) refuse("file", path, " is a folder, and a file is wanted")
+  if (!file.exists(path)) refuse("file", path, ": there is no such file")
+}
+
 # A file that is open to be written; where it cannot be, what the system says of it is refused.
 open_file <- function(path) {
   said <- "it cannot be written"

@@ -250,9 +250,24 @@ left_text <- function(left) {
 # The fixes as points of sf.
 st_as_sf.homerange_fixes <- function(x, ...) {
   check_dots(...)
+  check_sides(x)
   crs <- crs_or_none(facts_of(x))
-  table <- as.data.frame.homerange_fixes(x)
-  points <- if (nrow(x)) sf::st_as_sf(table, coords = c("easting", "northing"), remove = FALSE, crs = crs) else
-    sf::st_sf(table, geometry = sf::st_sfc(crs = crs))
-  structure(points, homerange = facts_of(x))
+  sides <- list2DF(sapply(c("easting", "northing"), function(title) numbers_of(x[[title]], title), simplify = FALSE))
+  sides[!stats::complete.cases(sides), ] <- NA_real_
+  places <- if (nrow(x)) sf::st_geometry(sf::st_as_sf(sides, coords = names(sides), crs = crs, na.fail = FALSE)) else sf::st_sfc(crs = crs)
+  structure(sf::st_sf(as.data.frame.homerange_fixes(x), geometry = places), homerange = facts_of(x))
 }
+
+# Refuses fixes whose places are no numbers, or not there once, as they are refused that are read again.
+check_sides <- function(x) {
+  lost <- setdiff(columns_of_fixes, names(x))
+  if (length(lost)) refuse("columns", "these fixes have no column '", lost[1], "' any more: give it back")
+  are_plain <- vapply(x[c("easting", "northing")], function(side) is_plain_number(side) && !any(is.infinite(side)), NA)
+  is_twice <- any(columns_of_fixes %in% titles_twice(x))
+  if (is_twice || !all(are_plain)) in_folder(function(folder) read_table(x, list(), TRUE, folder, FALSE))
+}
+
+is_plain_number <- function(column) is.numeric(column) && !is.object(column)
+
+# The numbers of a column of whatever class, as the program gets them.
+numbers_of <- function(column, title) if (is_plain_number(column)) as.numeric(column) else as.numeric(cells_of_column(column, title))

@@ -35,18 +35,31 @@ grouped_fixes <- function(whole, labels) {
 }
 
 # The group of each fix. Where a frame was read, values are those of its rows.
-labels_of <- function(fixes, by, frame = NULL) {
+labels_of <- function(fixes, by, frame = NULL, is_file = FALSE) {
   if (is_period(by)) return(labels_of_period(fixes, by))
-  if (is_text(by) && by %in% titles_twice(fixes)) refuse("ambiguous", "by: there are two columns '", by, "': rename one")
-  if (is_text(by) && by %in% names(fixes)) {
+  own <- if (is_text(by)) frame$own[names(frame$own) %in% by]  # that of the frame, though fixes have one of the title too
+  if (is_text(by) && (by %in% titles_twice(fixes) || length(own) > 1)) {
+    refuse("ambiguous", "by: there are two columns '", by, "': rename one")
+  }
+  if (is_text(by)) check_kept(by, fixes, is_file)
+  if (is_text(by) && !length(own) && by %in% names(fixes)) {
     by <- fixes[[by]]
   } else if (is.function(by)) {
     by <- by(fixes)
   } else {
-    check_titles(by, fixes)
+    if (length(own)) by <- own[[1]] else check_titles(by, fixes)
     if (!is.null(frame)) return(check_labels(text_of_groups(values_of(by, frame$number, "rows"))[frame$rows], frame$rows))
   }
   check_labels(text_of_groups(values_of(by, nrow(fixes), "fixes")), seq_len(nrow(fixes)))
+}
+
+# Refuses the title of a column of a file, of which fixes keep none but their own.
+check_kept <- function(by, fixes, is_file) {
+  facts <- facts_of(fixes)
+  is_of_file <- is.null(facts$sources) && (is_file || !by %in% names(fixes))
+  if (is_of_file && is_listed(by, grep("^not read: ", facts$notes, value = TRUE))) {
+    refuse("columns", "by: the column \"", by, "\" of a file is not kept: read the file before, as by read.csv, and take that in its place")
+  }
 }
 
 # Refuses a text that is the title of no column, and titles of several.

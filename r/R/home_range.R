@@ -14,7 +14,7 @@ home_range <- function(x, levels = c(50, 95, 100), by = NULL, ..., progress = in
     if (is_period(by)) check_period(by, names(x))
     read <- fixes_to_take(x, list(...), quiet, folder, has_rows = !is.null(by) && !is_period(by))
     whole <- whole_fixes(read$fixes)
-    if (!is.null(by)) whole <- grouped_fixes(whole, labels_of(read$fixes, by, read$frame))
+    if (!is.null(by)) whole <- grouped_fixes(whole, labels_of(read$fixes, by, read$frame, is_text(x)))
     if (!is.null(by) && !quiet) tell_note(whole$note, "guessed")
     tracks <- if (is.null(by) && !is.null(read$tracks)) read$tracks else write_tracks(whole$fixes, folder)
     report <- run_all(program, tracks, c("--unit", facts_of(read$fixes)$unit, "--percent", levels), isTRUE(progress))

@@ -19,16 +19,24 @@ write_layers <- function(ranges, path) {
   Sys.setenv(OGR_CURRENT_DATE = no_date)
   on.exit(if (is.na(before)) Sys.unsetenv("OGR_CURRENT_DATE") else Sys.setenv(OGR_CURRENT_DATE = before))
   local_plain()
-  if (any(has_area)) write_layer(polygons[has_area, ], path, "ranges")
+  if (any(has_area)) write_layer(polygons[has_area, ], path, "ranges", ranges)
   write_fixes(ranges, path)
   sf::st_write(qgis_styles(c("ranges"[any(has_area)], "fixes")), path, "layer_styles", quiet = TRUE, append = TRUE,
                layer_options = "FID=id")
 }
 
-# Adds a layer of shapes.
-write_layer <- function(layer, path, name) {
+# Adds the layer of polygons. Seconds that have no date are whole numbers, which sf alone would write with decimals.
+write_layer <- function(layer, path, name, ranges) {
   if (is.na(sf::st_crs(layer))) layer <- sf::st_set_crs(layer, plane_in_metres)
-  sf::st_write(layer, path, name, quiet = TRUE, append = TRUE)
+  if (has_dates(ranges)) return(sf::st_write(layer, path, name, quiet = TRUE, append = TRUE))
+  in_folder(function(folder) {
+    own <- file.path(folder, "layer.gpkg")
+    sf::st_write(layer, own, name, quiet = TRUE)
+    titles <- setdiff(names(layer), attr(layer, "sf_column"))
+    fields <- sprintf(ifelse(titles %in% c("first", "last"), "CAST(\"%1$s\" AS bigint) AS \"%1$s\"", "\"%1$s\""), titles)
+    select <- paste("SELECT", paste(fields, collapse = ", "), "FROM", name)
+    sf::gdal_utils("vectortranslate", own, path, c("-f", "GPKG", "-nln", name, "-dialect", "OGRSQL", "-sql", select), quiet = TRUE)
+  })
 }
 
 # The polygons of all levels, those of an animal together, with its times and the unit.
@@ -42,8 +50,8 @@ layer_of_polygons <- function(ranges) {
   shapes$corners <- own$corners
   whole <- c("level", "fixes", "kept", "corners")
   shapes[whole] <- lapply(sf::st_drop_geometry(shapes)[whole], as.integer)
-  shapes$first <- layer_time(ranges$rows$second[last - shapes$fixes + 1])
-  shapes$last <- layer_time(ranges$rows$second[last])
+  shapes$first <- layer_time(ranges$rows$second[last - shapes$fixes + 1], ranges)
+  shapes$last <- layer_time(ranges$rows$second[last], ranges)
   shapes$unit <- rep(ranges$unit, nrow(shapes))
   shapes[order(place), c("animal", whole, "hectares", "first", "last", "unit")]
 }
@@ -55,7 +63,8 @@ write_fixes <- function(ranges, path) {
   in_folder(function(folder) {
     text <- file.path(folder, "fixes.csv")
     write_parts(parts_of_frame(columns_of_layer(ranges)), text)
-    writeLines("\"String\",\"Integer\",\"DateTime\",\"CoordX\",\"CoordY\"", file.path(folder, "fixes.csvt"))
+    kind <- if (has_dates(ranges)) "DateTime" else "Integer64"
+    writeLines(paste0("\"String\",\"Integer\",\"", kind, "\",\"CoordX\",\"CoordY\""), file.path(folder, "fixes.csvt"))
     options <- c("-f", "GPKG", "-nln", "fixes", "-nlt", "POINT", "-lco", "SPATIAL_INDEX=NO", "-a_srs", system, "-oo",
                  "KEEP_GEOM_COLUMNS=NO", "-gt", "unlimited")
     sf::gdal_utils("vectortranslate", text, path, c(if (file.exists(path)) "-update", options), quiet = TRUE)
@@ -65,12 +74,15 @@ write_fixes <- function(ranges, path) {
 # The columns of that text.
 columns_of_layer <- function(ranges) {
   metres <- in_metres(ranges, ranges$fixes)
-  list(animal = as.character(ranges$fixes$animal), n = sequence(ranges$animals$fixes), time = layer_time(ranges$fixes$moment),
+  list(animal = as.character(ranges$fixes$animal), n = sequence(ranges$animals$fixes), time = layer_time(ranges$fixes$moment, ranges),
        x = metres[, 1], y = metres[, 2])
 }
 
-# Times of UTC, as tables have them.
-layer_time <- function(seconds) .POSIXct(ifelse(seconds <= last_of_pandas, seconds, NA_real_), tz = "UTC")
+# Times of UTC, or seconds where these have no date.
+layer_time <- function(seconds, ranges) if (has_dates(ranges)) .POSIXct(seconds, tz = "UTC") else seconds
+
+# Whether all seconds are dates, to where the times of pandas end.
+has_dates <- function(ranges) all(ranges$rows$second >= 1e8 & ranges$rows$second < last_of_pandas)
 
 # How QGIS draws layers, in the columns in which it looks for that.
 qgis_styles <- function(layers) {

@@ -100,18 +100,12 @@ text_of_titles <- function(option, value) {
 # One word, several between commas, or several words and numbers.
 text_of_words <- function(option, value) {
   if (is.factor(value)) value <- as.character(value)
-  if (is.numeric(value) && !is.object(value)) value <- if (option == "na") ways_of_numbers(value) else cells_of_numbers(value)
+  if (is.numeric(value) && !is.object(value)) value <- cells_of_numbers(value)
   if (!length(value)) refuse("option", option, ": there is no word")
   if (!is.character(value) || anyNA(value)) {
     refuse("option", argument_text(option, value), " is no name: a text, or several, is wanted")
   }
   if (length(value) == 1) as.vector(value) else with_commas(option, as.vector(value))
-}
-
-# The ways in which tables write numbers: their fewest digits, and the same with a 0 behind their point.
-ways_of_numbers <- function(numbers) {
-  cells <- cells_of_numbers(numbers)
-  c(rbind(cells, paste0(cells, ifelse(grepl(".", cells, fixed = TRUE), "0", ".0"))))
 }
 
 with_commas <- function(option, words) {

@@ -23,8 +23,10 @@ rounded_text <- function(numbers) decimal_text(round(numbers * 1e4), 4)
 
 whole_text <- function(numbers) ifelse(is.na(numbers), "", sprintf("%.0f", numbers))
 
-seconds_text <- function(seconds) {
-  is_known <- !is.na(seconds) & seconds <= last_of_pandas
+# Times in UTC; seconds of ranges that have no date as they are.
+seconds_text <- function(seconds, ranges) {
+  if (!has_dates(ranges)) return(whole_text(as.numeric(seconds)))
+  is_known <- !is.na(seconds)
   ifelse(is_known, format(.POSIXct(ifelse(is_known, seconds, 0), tz = "UTC"), "%Y-%m-%dT%H:%M:%SZ"), "")
 }
 
@@ -46,8 +48,8 @@ write_summary <- function(ranges, path) {
   last <- last_rows(ranges)[place]
   fixes <- ranges$animals$fixes[place]
   write_table(path, list(
-    animal = shown_cell(percents$animal), first = seconds_text(ranges$rows$second[last - fixes + 1]),
-    last = seconds_text(ranges$rows$second[last]), fixes = whole_text(fixes), level = whole_text(percents$level),
+    animal = shown_cell(percents$animal), first = seconds_text(ranges$rows$second[last - fixes + 1], ranges),
+    last = seconds_text(ranges$rows$second[last], ranges), fixes = whole_text(fixes), level = whole_text(percents$level),
     kept = whole_text(percents$kept), corners = whole_text(percents$corners), hectares = hectares_text(ranges, percents$area2)
   ))
 }
@@ -64,11 +66,11 @@ write_animals <- function(ranges, path) {
   write_table(path, c(
     list(animal = shown_cell(animals$animal), records = whole_text(animals$fixes + Reduce(`+`, left, 0))),
     lapply(left, whole_text),
-    list(used = whole_text(animals$fixes), first = seconds_text(first), last = seconds_text(last),
+    list(used = whole_text(animals$fixes), first = seconds_text(first, ranges), last = seconds_text(last, ranges),
          days = rounded_text((last - first) / 86400), median_hours = rounded_text(of_intervals(twice_median) / 7200),
          longest_hours = rounded_text(of_intervals(max) / 3600)),
     hectares_by_level(ranges),
-    list(within_95_fix = whole_text(grown$within_95_fix), within_95_time = seconds_text(grown$within_95_time),
+    list(within_95_fix = whole_text(grown$within_95_fix), within_95_time = seconds_text(grown$within_95_time, ranges),
          last_tenth = rounded_text(grown$last_tenth), last_quarter = rounded_text(grown$last_quarter))
   ))
 }

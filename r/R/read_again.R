@@ -79,14 +79,14 @@ bytes_of_values <- function(column, title) {
   serialize(list(title, column), NULL, xdr = FALSE)
 }
 
-# Refuses times of fixes that have no zone any more, as text or days.
+# Refuses times of fixes that have no zone any more, as text or days, in whatever form.
 check_times <- function(fixes) {
   times <- fixes[["time"]]
   if (!is.character(times) && !is.factor(times) && !inherits(times, "Date")) return(invisible())
   cells <- cells_of_column(times, "time")
   if (all(cells == "" | grepl("[0-9]:[0-9.:]+(Z|[+-][0-9]{2}:?([0-9]{2})?)$", cells))) return(invisible())
-  refuse("time", "the times of fixes have no zone any more: give them one, as by as.POSIXct(",
-         if (inherits(times, "Date")) "format(fixes$time)" else "fixes$time", ", tz = \"", facts_of(fixes)$tz, "\")")
+  refuse("time", "the times of fixes have no zone any more: keep those that read_fixes gave, or read as.data.frame(fixes) as a new table, ",
+         "with tz for the clock of its times")
 }
 
 # Refuses fixes of other readings, or of none, among these: of an animal more than were read of it, of which some were not read.

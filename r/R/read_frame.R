@@ -8,6 +8,9 @@ remedies_of_frames <- c(
   "say so by lon = \"point [^;]*" = "give the points the reference system that they have, as by sf::st_set_crs(x, 4326)"
 )
 
+remedy_of_swapped <- paste0(": are x and y of the points the other way? sf::st_geometry(x) <- sf::st_set_crs(sf::st_geometry(x) * ",
+                            "matrix(c(0, 1, 1, 0), 2), sf::st_crs(x)) turns them")
+
 # The fixes of a data frame.
 read_frame <- function(x, given, folder, has_rows) {
   check_frame(x, given)
@@ -29,7 +32,9 @@ read_frame <- function(x, given, folder, has_rows) {
   lost <- if (has_rows) lost_columns(x, sources)
   facts <- facts_of(read$fixes)
   facts[c("sources", "notes")] <- list(sources, c(facts$notes, lost))
-  list(fixes = new_fixes(read$fixes, facts), said = c(read$said, lost), tracks = read$tracks, frame = list(rows = rows, number = nrow(x)))
+  own <- columns_of(x)[names(columns_of(x)) %in% titles_of_fixes]
+  list(fixes = new_fixes(read$fixes, facts), said = c(read$said, lost), tracks = read$tracks,
+       frame = list(rows = rows, number = nrow(x), own = own))
 }
 
 # The columns of a frame that its fixes have too: all but those with the titles of what fixes have of their own, and those whose
@@ -184,17 +189,20 @@ check_cells <- function(frame, said) {
 check_names <- function(frame, title) {
   column <- as.list(frame$x)[[title]]
   what <- what_no_name_is(column)
-  row <- if (!is.null(what)) which(!is.na(column))[1] else if (is.double(column) && !is.object(column)) which(column != floor(column))[1]
+  row <- if (!is.null(what)) which(!is.na(column))[1] else if (is.double(column) && !has_own_class(column)) first_not_whole(column)
   if (length(row) && !is.na(row)) {
-    shown <- cells_of_column(column[row], title)
+    shown <- cells_of_column(column, title)[row]
     refuse_row(frame$x, "name", row, paste0(title, " is ", shown, ", ", c(what, "a number that is not whole")[1], ": make it text"))
   }
 }
 
+# The first number that is not whole, or has no end.
+first_not_whole <- function(numbers) which(is.infinite(numbers) | numbers != floor(numbers))[1]
+
 # What a column is that has no names, whatever is in it.
 what_no_name_is <- function(column) {
   if (is.logical(column)) return("a truth")
-  if (inherits(column, c("Date", "POSIXt"))) return("a time")
+  if (inherits(column, c("Date", "POSIXt", "difftime", "ITime", "times"))) return("a time")
   if (inherits(column, "units")) "a quantity"
 }
 
@@ -250,6 +258,7 @@ refuse_frame <- function(frame, refusal, folder) {
   if (length(odd)) refuse_cell(frame, refusal$kind, if (any(named)) odd[named] else odd)
   if (startsWith(refusal$text, "there are no columns of usual titles for easting")) check_columns_within(frame$x)
   if (refusal$kind == "time") text <- with_remedy_of_clocks(text, frame$x)
+  if (length(frame$places$parts)) text <- sub(": are their columns to be named the other way.*", remedy_of_swapped, text)
   if (grepl("both fit the time: |and not a time ", text)) text <- with_remedy_of_moments(text, frame)
   refuse_row(frame$x, refusal$kind, refusal$record, paste0(of_frame(text, frame$x), remedy_of_fixes(frame$x, refusal)))
 }

@@ -17,7 +17,7 @@ unescaped <- function(texts, form = "\\\\(x(?:[0189][0-9a-f]|7f)|u202[89])") {
 
 # What a record says.
 read_record <- function(path) {
-  if (!file.exists(path) || dir.exists(path)) refuse("file", path, ": there is no such file")
+  check_file(path, "record")
   lines <- readLines(path, warn = FALSE, encoding = "UTF-8")
   kinds <- sub(",.*", "", lines)
   rest <- substring(lines, nchar(kinds) + 2)

@@ -214,7 +214,7 @@ read_report <- function(file, start = NULL, files = NULL, record = NULL) {
   file <- expanded(file)
   files <- if (!is.null(files)) expanded(files)
   record <- if (!is.null(record)) expanded(record)
-  if (!file.exists(file) || dir.exists(file)) refuse("file", file, ": there is no such file")
+  check_file(file, "file")
   report <- parse_report(report_text(file), file)
   animals <- report$animals$animal
   counts <- matrix(NA_real_, length(animals), length(animals), dimnames = list(animals, animals))
@@ -226,7 +226,30 @@ read_report <- function(file, start = NULL, files = NULL, record = NULL) {
   if (!is.null(files)) ranges <- with_files(ranges, files)
   if (is.null(record)) return(ranges)
   ranges$record_file <- record
-  with_record(ranges, read_record(record))
+  own <- read_record(record)
+  check_record_of(own, ranges)
+  with_record(ranges, own)
+}
+
+# Refuses a record that is not that of a report, or not that of its files, where these are there.
+check_record_of <- function(record, ranges) {
+  if (record$unit != ranges$unit) {
+    refuse("text", "the report is in ", ranges$unit, ", and split.txt in ", record$unit, ": take the record of the tracks of this report")
+  }
+  animals <- ranges$animals$animal
+  place <- match(animals, record$tracks$animal)
+  used <- ifelse(is.na(place), 0, record$tracks$used[place])
+  odd <- which(used != ranges$animals$fixes)[1]
+  if (nrow(record$tracks) && !is.na(odd)) {
+    refuse("text", "the report has ", ranges$animals$fixes[odd], " fixes of ", animals[odd], ", and split.txt has ", used[odd],
+           ": was a track changed, or left out?")
+  }
+  sums <- record$tracks$checksum[place]
+  lost <- if (length(ranges$files)) animals[nzchar(sums) & !sums %in% vapply(ranges$files, checksum_of, "")]
+  if (length(lost)) {
+    refuse("text", "no file is the track of ", lost[1], " of which split.txt has the checksum: take the record of these files, or the ",
+           "files of this record")
+  }
 }
 
 # Ranges with the fixes of the files of their report, which have to be of them.
@@ -249,7 +272,7 @@ read_track <- function(path) {
   if (dir.exists(path)) {
     refuse("file", path, " is a folder: name its files, as by list.files(\"", path, "\", \"[.]csv$\", full.names = TRUE)")
   }
-  if (!file.exists(path)) refuse("file", path, ": there is no such file")
+  check_file(path, "files")
   table <- tryCatch(
     suppressWarnings(utils::read.csv(path, colClasses = "character", na.strings = character(), check.names = FALSE, encoding = "UTF-8")),
     error = function(fault) data.frame(none = character())

@@ -12,7 +12,8 @@ read_report(file, start = NULL, files = NULL, record = NULL)
 \item{files}{the names of the files that the report was made from. With them \code{\link[=st_as_sf.home_range]{polygons}}
   below level 100, fixes in   plots and \code{\link{homerange_evidence}} can be had.}
 \item{record}{the name of their record, \code{split.txt} of \code{homerange-split} or
-  \code{\link{homerange_evidence}}. From it is known what was left out and said, the reference system and the shift.}
+  \code{\link{homerange_evidence}}. From it is known what was left out and said, the reference system and the shift.
+  One of another report, or of other files, is refused.}
 }
 \details{
 The unit of coordinates is that of the report's first line: decimetres after \code{unit,dm}, else metres. A report alone has no

@@ -24,6 +24,7 @@ ghost use Rattle.split_reading.specs.Words.{texts};
 ghost use Rattle.split_refusal.specs.Refused.{IsOfNoFix};
 ghost use Rattle.split_said.specs.Order.{animals_in_order};
 
+use crate::missing::tell_unmet;
 use crate::passed::refuse_passed_over;
 use crate::placed::{choice_of, grid_of, moved_by, place};
 use crate::read::{read, refuse_maker, refuse_other_animals, shown};
@@ -369,12 +370,13 @@ fn split_sheet(
     wish: &Wish<'_>,
     columns: &Columns<Global>,
     ledger: Ledger,
+    said: Said,
 ) -> Result<Split, Refusal>
     ensures split { IfOk result (λ split. (files : AreFilesOf wish.now sheet.now.unit columns.now ledger
         (map filed split.files.items) split.counts.items) × AreTold files.are_files.are_files split.order.items split.records) }
     ensures refused { IfErr result (λ refusal. IsOffGridOf wish.now sheet.now.unit columns.now ledger refusal ⊎ IsOfNoFix refusal) }
 {
-    let mut said = Said::new(alloc);
+    let mut said = said;
     let grid = check(alloc, &mut said, text, sheet, &ledger)?;
     let Ledger { names, rows, .. } = ledger;
     let mut rows = rows;
@@ -397,6 +399,7 @@ fn split_read(
     wish: &Wish<'_>,
     form: &[u8],
     export: Export<'_>,
+    said: Said,
 ) -> Result<Split, Refusal>
     ensures split { IfOk result (λ split. (files : AreFilesOf wish.now asked.now.unit export.entry.columns export.entry.ledger
         (map filed split.files.items) split.counts.items) × AreTold files.are_files.are_files split.order.items split.records) }
@@ -421,7 +424,8 @@ fn split_read(
         name: asked.name,
         times: TimesRead {
             form,
-            clock: wish.clock_name.as_bytes(),
+            clock: asked.clock,
+            clock_name: wish.clock_name.as_bytes(),
         },
         filters: asked.filters,
         wanted: Wanted {
@@ -432,7 +436,7 @@ fn split_read(
         },
         keeps_marks: wish.keeps_marks,
     };
-    split_sheet(alloc, &text, &sheet, wish, &columns, ledger)
+    split_sheet(alloc, &text, &sheet, wish, &columns, ledger, said)
 }
 
 /// Splits the bytes of an export at this path into the files of its tracks, and says what was guessed, left out, sorted, shifted
@@ -459,5 +463,7 @@ pub fn split_export<P: Progress>(
     refuse_other_animals(alloc, bytes, path, &export)?;
     refuse_passed_over(alloc, wish, &export)?;
     let form = form_of_times(alloc, bytes, asked, wish, &export)?;
-    split_read(alloc, asked, wish, &form, export)
+    let mut said = Said::new(alloc);
+    tell_unmet(alloc, &mut said, bytes, asked, wish, &export)?;
+    split_read(alloc, asked, wish, &form, export, said)
 }

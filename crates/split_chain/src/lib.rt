@@ -4,6 +4,7 @@
 
 mod chain;
 mod laws;
+mod missing;
 mod passed;
 mod placed;
 mod read;

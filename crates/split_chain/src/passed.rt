@@ -152,10 +152,11 @@ fn words_of(passed: Passed) -> &'static str {
              in --time-format, or remove it"
         }
         Passed::Side => {
-            "has S or W beside degrees above 0, and is not read: write those with a minus, and remove it"
+            "has S or W beside degrees above 0, and is not read: if they lie there, write them with a minus and remove it, and else \
+             write its values otherwise"
         }
         Passed::Classes => {
-            "may have Argos classes: name it, as by --argos COLUMN, or rename or remove it where it has none"
+            "may have Argos classes: name it, as by --argos COLUMN, or write its values otherwise where it has none"
         }
         Passed::Clock => {
             "has hours, which the days of the time have not: join them, as by --time DAY,COLUMN, or remove it"

@@ -33,6 +33,8 @@ pub struct Wish<'a> {
     pub until: &'a [u8],
     /// The option that needs a time; empty where none does.
     pub needs_time: &'a str,
+    /// Whether words for what is missing were named.
+    pub names_missing: bool,
     /// The forms of times, as they were named; empty where none was.
     pub forms: &'a str,
     /// The name of the zone by whose clock times are read, which is `UTC` where none was named.

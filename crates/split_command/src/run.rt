@@ -66,6 +66,7 @@ fn wish_of<'a>(
         since: choices.since_words.unwrap_or("").as_bytes(),
         until: choices.until_words.unwrap_or("").as_bytes(),
         needs_time: choices.needs_time(),
+        names_missing: words.names_missing,
         forms: words.form_words,
         clock_name: words.clock_name(),
     }

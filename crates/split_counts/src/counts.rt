@@ -10,6 +10,24 @@ use std::alloc::Allocator;
 /// How many reasons there are.
 pub const REASONS: usize = 14;
 
+/// All reasons, in their order.
+pub const ALL_REASONS: [Reason; REASONS] = [
+    Reason::Animal,
+    Reason::Coordinates,
+    Reason::Zero,
+    Reason::Sensor,
+    Reason::Outlier,
+    Reason::Class,
+    Reason::NoDop,
+    Reason::Dop,
+    Reason::Type,
+    Reason::Before,
+    Reason::After,
+    Reason::Grid,
+    Reason::Speed,
+    Reason::Every,
+];
+
 /// The place of a reason among all, in the order in which a record's first is found: below [`REASONS`].
 pub fn reason_place(reason: Reason) -> usize
     ensures { result ≡ reason_place reason }

@@ -119,9 +119,9 @@ fn ledger_by<'b, P: Progress>(
     }
 }
 
-// Whether commas may stand before decimals in a table: they do not part its fields, or did not part those of the texts of which it
-// was made.
-fn has_commas(text: &[u8], asked: &Asked<'_>) -> bool
+/// Whether commas may stand before decimals in the table of a text: they do not part its fields, or did not part those of the texts of which it
+/// was made.
+pub fn has_commas(text: &[u8], asked: &Asked<'_>) -> bool
     ensures { result ≡ has_commas asked.now text.now }
 {
     asked.has_commas || separator_of(without_mark(text)) != b','

@@ -5,10 +5,6 @@ use Rattle.std.specs.List.{list_any}
 use Rattle.std.specs.Str.{bytes_eq}
 use Rattle.split_titles.specs.Plain.{plain, trimmed}
 
--- whether a word is one of these
-abbrev pub is_among : List (Bor (List ℕ)) → List ℕ → Bool
-is_among words word = list_any (λ own. bytes_eq own.now word) words
-
 -- whether a word comes to another, as titles do
 unfoldable pub is_like : List ℕ → List ℕ → Bool
 is_like word other = bytes_eq (plain word) (plain other)

@@ -6,4 +6,4 @@ mod filters;
 mod words;
 
 pub use filters::{Filters, is_of_sensor, left_for};
-pub use words::{ARGOS, class_name, is_among, is_known_class, is_one_of, sensor_name};
+pub use words::{ARGOS, class_name, is_known_class, is_one_of, sensor_name};

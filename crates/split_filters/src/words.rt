@@ -1,24 +1,12 @@
 // Words of tables: those of a list, sensors, and classes of Argos.
 
 ghost use Rattle.std.specs.Prelude.{◌≡◌};
-ghost use Rattle.split_filters.specs.Words.{class_name, class_of, is_among, is_class, is_known_class, is_like, is_one_of, is_sensor, sensor_name, sensor_of, without_lc};
+ghost use Rattle.split_filters.specs.Words.{class_name, class_of, is_class, is_known_class, is_like, is_one_of, is_sensor, sensor_name, sensor_of, without_lc};
 
 use split_titles::{comes_to, trimmed};
 
 /// The sensor of fixes of Argos.
 pub const ARGOS: &[u8] = b"argos-doppler-shift";
-
-/// Whether a word is one of these.
-pub fn is_among(words: &[&[u8]], word: &[u8]) -> bool
-    ensures { result ≡ is_among words.now word.now }
-{
-    for own in words {
-        if *own == word {
-            return true;
-        }
-    }
-    false
-}
 
 // Whether a word comes to another, as titles do.
 #[tactic(auto, unfolding(crate::specs::Words::is_like))]

@@ -16,10 +16,11 @@ use std::cmp::Ordering;
 // The greatest number of the twelve digits that may stand before the point.
 const WHOLE_LIMIT: u64 = 999_999_999_999;
 
-// From how many on trillionths are not told apart, and how many these are.
+// From how many on trillionths are not told apart.
 const MANY: u64 = 1_000_000;
 
-const MOST_TRILLIONTHS: i64 = 1_000_000_000_000_000_000;
+/// The most trillionths that a number comes to.
+pub const MOST_TRILLIONTHS: i64 = 1_000_000_000_000_000_000;
 
 // How many trillionths one has, and by how many places the point of a number moves that counts them.
 const TRILLION: u64 = 1_000_000_000_000;
@@ -160,7 +161,7 @@ fn measured_of(before: &[u8], behind: &[u8], measure: Measure, negative: bool) -
 }
 
 // Where the first point of a number stands.
-fn point_in(number: &[u8], commas: bool) -> Option<usize>
+pub(crate) fn point_in(number: &[u8], commas: bool) -> Option<usize>
     ensures place { result ≡ point_in commas number.now }
     ensures within { IfSome result (λ point. point < length number.now) }
 {

@@ -9,28 +9,9 @@ ghost use Rattle.split_output.specs.Record.{SayLeft};
 use crate::ranked::by_name;
 use range_plane::OutOfMemory;
 use split_chain::Split;
-use split_counts::count_of;
+use split_counts::{ALL_REASONS, count_of};
 use split_record::Left;
-use split_tracks::Reason;
 use std::alloc::Global;
-
-// All reasons, in their order.
-const REASONS: [Reason; 14] = [
-    Reason::Animal,
-    Reason::Coordinates,
-    Reason::Zero,
-    Reason::Sensor,
-    Reason::Outlier,
-    Reason::Class,
-    Reason::NoDop,
-    Reason::Dop,
-    Reason::Type,
-    Reason::Before,
-    Reason::After,
-    Reason::Grid,
-    Reason::Speed,
-    Reason::Every,
-];
 
 // Appends what is left out of an animal, or of none, by the counts of so many animals.
 fn push_left_of<'a>(
@@ -44,7 +25,7 @@ fn push_left_of<'a>(
     ensures { OnOk result ((fates : List Fate) → counts.now ≡ left_counts animals fates
         → map left_out left.new.items ≡ map left_out left.old.items ++ left_of fates name.now animal) }
 {
-    for reason in REASONS {
+    for reason in ALL_REASONS {
         let count = count_of(counts, animals, animal, reason);
         if count > 0 {
             left.push(Left {

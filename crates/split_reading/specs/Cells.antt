@@ -1,11 +1,12 @@
 -- What one cell of a record says.
 use Rattle.std.specs.Prelude.{ℕ, ℤ, Bool, true, false, ◌==◌, ◌&&◌, ◌||◌, not, if◌then◌else◌, List, [], length, codes, Option, Some, None, is_some, Result, Ok, Err}
-use Rattle.std.specs.List.{list_all}
+use Rattle.std.specs.Borrow.{Bor}
+use Rattle.std.specs.List.{list_all, list_any}
 use Rattle.std.specs.Option.{unwrap_or}
 use Rattle.std.specs.Str.{bytes_eq}
 use Rattle.csv.specs.Records.{field_at}
-use Rattle.split_filters.specs.Words.{is_among}
 use Rattle.split_numbers.specs.Decimal as decimal
+use Rattle.split_numbers.specs.Same.{is_same_number}
 use Rattle.split_reading.specs.declared.rules.Rules.{Rules}
 use Rattle.split_reading.specs.declared.fault.CellFault.{CellFault}
 use Rattle.split_reading.specs.declared.fault.CellFault.TheVariants.{NotNumber, NotTruth}
@@ -24,9 +25,17 @@ abbrev pub ◌>>=◌ : {A B : Type 0} → Result A CellFault → (A → Result B
 abbrev pub field : Record → ℕ → List ℕ
 field fields place = unwrap_or (field_at fields place) []
 
+-- whether a field is a word for what is missing, or the same number
+abbrev pub is_word : Bool → List ℕ → List ℕ → Bool
+is_word commas word text = bytes_eq word text || is_same_number word text commas
+
+-- whether a field is one of these words
+abbrev pub is_one_of : Bool → List (Bor (List ℕ)) → List ℕ → Bool
+is_one_of commas words text = list_any (λ word. is_word commas word.now text) words
+
 -- the text of a field, which is empty where it is a word for what is missing
 abbrev pub known : Rules → List ℕ → List ℕ
-known rules text = if is_among rules.missing.now text then [] else text
+known rules text = if is_one_of rules.has_commas rules.missing.now text then [] else text
 
 -- the field of a record in a column
 abbrev pub cell : Rules → Record → ℕ → List ℕ

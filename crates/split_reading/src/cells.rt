@@ -2,20 +2,39 @@
 
 ghost use Rattle.std.specs.Prelude.{◌≡◌};
 ghost use Rattle.csv.specs.Records.{fields_of};
-ghost use Rattle.split_reading.specs.Cells.{cell, is_missing, is_zero, mark_text, number_in, trillionths_in, truth_in, truth_of, word_in};
+ghost use Rattle.split_reading.specs.Cells.{cell, is_missing, is_one_of, is_word, is_zero, mark_text, number_in, trillionths_in, truth_in, truth_of, word_in};
 
 use crate::fault::CellFault;
 use crate::rules::Rules;
 use csv::ByteRecord;
-use split_filters::is_among;
-use split_numbers::{trillionths, whole_units};
+use split_numbers::{is_same_number, trillionths, whole_units};
+
+/// Whether a field is a word for what is missing: the same bytes, or the same number, as `-9999` and `-9999.0` are. In a number a
+/// comma may stand in place of the point, where `has_commas` says so.
+pub fn is_word(word: &[u8], text: &[u8], has_commas: bool) -> bool
+    ensures { result ≡ is_word has_commas word.now text.now }
+{
+    word == text || is_same_number(word, text, has_commas)
+}
+
+// Whether a field is one of the words for what is missing.
+fn is_one_of(words: &[&[u8]], text: &[u8], has_commas: bool) -> bool
+    ensures { result ≡ is_one_of has_commas words.now text.now }
+{
+    for word in words {
+        if is_word(word, text, has_commas) {
+            return true;
+        }
+    }
+    false
+}
 
 // The field of a record in a column; empty where it is not there, or is a word for what is missing.
 pub(crate) fn cell<'a>(fields: &'a ByteRecord, column: usize, rules: &Rules<'_, '_>) -> &'a [u8]
     ensures { result.now ≡ cell rules.now (fields_of «fields».entry.now) column }
 {
     let text = fields.get(column).unwrap_or(b"");
-    if is_among(rules.missing, text) {
+    if is_one_of(rules.missing, text, rules.has_commas) {
         b""
     } else {
         text

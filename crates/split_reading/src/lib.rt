@@ -14,6 +14,7 @@ mod told;
 mod words;
 mod zone;
 
+pub use cells::is_word;
 pub use fault::{CellFault, ReadingFault};
 pub use ledger::{Ledger, Row, read_records};
 pub use moment::time_text;

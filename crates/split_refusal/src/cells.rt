@@ -3,6 +3,7 @@
 ghost use Rattle.std.specs.Prelude.{◌≡◌, IfOk, Some};
 ghost use Rattle.split_refusal.specs.Refused.{IsOfKind, Names};
 
+use crate::forms::without_blanks;
 use crate::kind::Kind;
 use crate::push::{Field, field_at, push, push_field, push_number};
 use crate::refusal::{Refusal, Sentence};
@@ -33,12 +34,20 @@ fn count_sentence(alloc: Global, count: usize, wanted: usize) -> Result<Sentence
     })
 }
 
-// That a record names no animal in the column of this title.
-fn unnamed_sentence(alloc: Global, title: &[u8]) -> Result<Sentence, OutOfMemory> {
+// That a record names no animal in this field.
+fn unnamed_sentence(alloc: Global, field: Field<'_>) -> Result<Sentence, OutOfMemory> {
     let mut text = Vec::new(alloc);
-    push(&mut text, "there is no ")?;
-    text.extend_from_slice(title)?;
-    push(&mut text, ", and --skip-unnamed leaves such records out")?;
+    if without_blanks(field.cell).is_empty() {
+        push(&mut text, "there is no ")?;
+        text.extend_from_slice(field.title)?;
+        push(&mut text, ", and --skip-unnamed leaves such records out")?;
+    } else {
+        push_field(
+            &mut text,
+            field,
+            ", which --na names, and so no animal: leave it out of --na",
+        )?;
+    }
     Ok(Sentence {
         kind: Kind::Animal,
         text,
@@ -110,7 +119,7 @@ fn sentence_of_time(
     field: Field<'_>,
 ) -> Result<Option<Sentence>, OutOfMemory> {
     let sentence = match fault {
-        CellFault::NoTime => missing_time(alloc, field)?,
+        CellFault::NoTime => missing_time(alloc, field, shown.time.len())?,
         CellFault::Time { fault } => time_sentence(alloc, field, fault, shown.forms)?,
         CellFault::Number { fault } => number_sentence(alloc, field, fault)?,
         CellFault::Clock { fault } => clock_sentence(alloc, field, fault, shown.clock)?,
@@ -143,7 +152,7 @@ fn sentence_of_cell(
         CellFault::NotZone { column } => zone_sentence(alloc, field_in(shown, column)),
         _ => {
             let animal = field_at(shown.titles, shown.fields, shown.animal.first().copied());
-            unnamed_sentence(alloc, animal.title)
+            unnamed_sentence(alloc, animal)
         }
     }
 }

@@ -26,6 +26,10 @@ enum Why {
     TimeAmongSeconds,
     // It has more than nine decimals.
     ManyDecimals,
+    // It is a clock alone.
+    Clock,
+    // It is a number with an exponent.
+    Exponent,
 }
 
 impl Why {
@@ -41,6 +45,10 @@ impl Why {
                 ", which is a time among seconds: write seconds since a start, or name the column otherwise, such as timestamp"
             }
             Why::ManyDecimals => ", which has more than nine decimals: write nine at most",
+            Why::Clock => {
+                ", which is a clock without a day: name the column of the day too, as by --time DAY,CLOCK"
+            }
+            Why::Exponent => ", which is a number without all of its digits: write these",
         }
     }
 }
@@ -70,10 +78,29 @@ fn is_missing(cell: &[u8]) -> bool {
     text.is_empty() || text == b"NA".as_slice()
 }
 
+// Whether a text is a clock alone.
+fn is_clock(cell: &[u8]) -> bool {
+    let text = without_blanks(cell);
+    let are_its = |byte: &u8| byte.is_ascii_digit() || *byte == b':' || *byte == b'.';
+    text.contains(&b':') && text.iter().all(are_its)
+}
+
+// Whether a text is a number with an exponent.
+fn has_exponent(cell: &[u8]) -> bool {
+    let text = without_blanks(cell);
+    let are_its = |byte: &u8| byte.is_ascii_digit() || b"eE+-.".contains(byte);
+    let begins = text.first().is_some_and(u8::is_ascii_digit);
+    begins && text.iter().any(|byte| byte.eq_ignore_ascii_case(&b'e')) && text.iter().all(are_its)
+}
+
 // Why a text that is no number is no time.
 fn why_no_text(cell: &[u8]) -> Why {
     if has_iso_form(cell) {
         Why::NoTime
+    } else if is_clock(cell) {
+        Why::Clock
+    } else if has_exponent(cell) {
+        Why::Exponent
     } else {
         Why::OtherForm
     }
@@ -131,9 +158,25 @@ fn sentence(alloc: Global, field: Field<'_>, why: Why) -> Result<Sentence, OutOf
     })
 }
 
-// That a time is missing.
-pub(crate) fn missing_time(alloc: Global, field: Field<'_>) -> Result<Sentence, OutOfMemory> {
-    sentence(alloc, field, Why::Missing)
+// That a time is missing, of so many columns.
+pub(crate) fn missing_time(
+    alloc: Global,
+    field: Field<'_>,
+    columns: usize,
+) -> Result<Sentence, OutOfMemory> {
+    if columns != 1 || is_missing(field.cell) {
+        return sentence(alloc, field, Why::Missing);
+    }
+    let mut text = Vec::new(alloc);
+    push_field(
+        &mut text,
+        field,
+        ", which --na names, and so no time: leave it out of --na",
+    )?;
+    Ok(Sentence {
+        kind: Kind::Time,
+        text,
+    })
 }
 
 // That a field has none of the forms that are named, between which `|` stands.

@@ -63,9 +63,9 @@ pub(crate) fn tell_clock(
 ) -> Result<(), OutOfMemory> {
     let times = sheet.times;
     if !sheet.columns.time.is_empty() && !times.form.is_empty() {
-        said.say(alloc, &form_text(alloc, times.form, times.clock)?)?;
+        said.say(alloc, &form_text(alloc, times.form, times.clock_name)?)?;
     }
     let records = records_twice(alloc, rows)?;
-    let text = twice_text(alloc, &records, times.clock, &sheet.exports)?;
+    let text = twice_text(alloc, &records, times.clock_name, &sheet.exports)?;
     said.say_counted(alloc, records.len(), &text)
 }

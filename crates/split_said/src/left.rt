@@ -4,7 +4,7 @@ use crate::said::Said;
 use crate::sheet::Sheet;
 use crate::words::{push, push_decimal, push_number};
 use range_plane::OutOfMemory;
-use split_counts::{REASONS, reason_place};
+use split_counts::{ALL_REASONS, REASONS, reason_place};
 use split_fates::row_reason;
 use split_reading::Row;
 use split_record::reason_words;
@@ -50,27 +50,12 @@ impl LeftCounts {
     }
 }
 
-// The reasons that are known before the grid is, in their order.
-const KNOWN: [Reason; 11] = [
-    Reason::Animal,
-    Reason::Coordinates,
-    Reason::Zero,
-    Reason::Sensor,
-    Reason::Outlier,
-    Reason::Class,
-    Reason::NoDop,
-    Reason::Dop,
-    Reason::Type,
-    Reason::Before,
-    Reason::After,
-];
-
 // That no fix is left, and for which reasons how many records were left out.
 pub(crate) fn none_left_text(alloc: Global, left: &LeftCounts) -> Result<Vec<u8>, AllocError> {
     let mut text = Vec::new(alloc);
     push(&mut text, "no fix is left; left out by reason")?;
     let mut mark = ": ";
-    for reason in KNOWN {
+    for reason in ALL_REASONS {
         let count = left.count(reason);
         if count > 0 {
             push(&mut text, mark)?;

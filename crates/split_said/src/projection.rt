@@ -7,6 +7,7 @@ use crate::sheet::Sheet;
 use crate::stop::{Stop, nothing_left, refused};
 use crate::words::{push, push_decimal, push_zone, push_zone_option};
 use crate::zones::{Zoned, first_zone, ranked_zones, zone_counts};
+use split_numbers::MOST_TRILLIONTHS;
 use split_reading::{Row, Zone};
 use split_refusal::Kind;
 use std::alloc::{AllocError, Global};
@@ -58,8 +59,10 @@ fn no_place(row: &Row, keeps_marks: bool) -> Option<(i64, i64)> {
     }
 }
 
-// From how many trillionths of a degree on the number of them is that of all that are more.
-const MANY: u64 = 1_000_000_000_000_000_000;
+// Whether degrees are as many as are told apart: they may be more.
+fn are_most(degrees: i64) -> bool {
+    degrees.unsigned_abs() >= MOST_TRILLIONTHS.unsigned_abs()
+}
 
 // Appends degrees.
 fn push_degrees(text: &mut Vec<u8>, degrees: i64) -> Result<(), AllocError> {
@@ -67,10 +70,10 @@ fn push_degrees(text: &mut Vec<u8>, degrees: i64) -> Result<(), AllocError> {
         push(text, "-")?;
     }
     push_decimal(text, degrees.unsigned_abs(), TRILLION)?;
-    if degrees.unsigned_abs() < MANY {
-        return Ok(());
+    if are_most(degrees) {
+        return push(text, " or more");
     }
-    push(text, " or more")
+    Ok(())
 }
 
 // Whether a longitude and a latitude may be each other.
@@ -96,7 +99,7 @@ fn push_remedy(text: &mut Vec<u8>, longitude: i64, latitude: i64) -> Result<(), 
     } else {
         latitude
     };
-    if MANY <= odd.unsigned_abs() {
+    if are_most(odd) {
         return Ok(());
     }
     push(text, ", such as --na ")?;

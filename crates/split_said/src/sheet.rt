@@ -2,6 +2,7 @@
 
 use crate::exports::Exports;
 use range_plane::Scale;
+use split_clock::Clock;
 use split_filters::Filters;
 use split_reading::Zone;
 use split_titles::{Columns, trimmed};
@@ -21,8 +22,10 @@ pub struct Wanted<'a> {
 pub struct TimesRead<'a> {
     /// In which form, in words; empty where that goes without saying.
     pub form: &'a [u8],
-    /// The name of the zone by whose clock.
-    pub clock: &'a [u8],
+    /// By which clock. None is that of UTC.
+    pub clock: Option<&'a Clock>,
+    /// The name of its zone.
+    pub clock_name: &'a [u8],
 }
 
 /// A table's titles and columns, and what was asked of it.

@@ -5,11 +5,12 @@ use crate::tracks::Herd;
 use crate::words::push;
 use itoa::Buffer;
 use jiff_core::civil::Date;
+use split_clock::Clock;
 use split_tracks::Entry;
 use std::alloc::{AllocError, Global};
 
 // The seconds of a day.
-const DAY: u64 = 86_400;
+const DAY: i128 = 86_400;
 
 // The first and the last second of some fixes.
 #[derive(Clone, Copy)]
@@ -52,9 +53,13 @@ fn seconds_of(herd: &Herd<'_>) -> Option<Seconds> {
     seconds
 }
 
-// The day of a second, in UTC; none where it is past the year 9999.
-fn day_of(second: u64) -> Option<Date> {
-    let day = i64::try_from(second / DAY).ok()?;
+// The day of a second by a clock; none where it is past the year 9999.
+fn day_of(second: u64, clock: Option<&Clock>) -> Option<Date> {
+    let shown = match clock {
+        Some(clock) => clock.local_second(second),
+        None => i128::from(second),
+    };
+    let day = i64::try_from(shown.div_euclid(DAY)).ok()?;
     Date::from_unix_epoch_day(day).ok()
 }
 
@@ -96,7 +101,8 @@ pub(crate) fn push_span(
     if sheet.columns.time.is_empty() {
         return Ok(());
     }
-    match (day_of(seconds.first), day_of(seconds.last)) {
+    let clock = sheet.times.clock;
+    match (day_of(seconds.first, clock), day_of(seconds.last, clock)) {
         (Some(first), Some(last)) if !sheet.columns.is_second => {
             push_days(alloc, text, first, last)
         }

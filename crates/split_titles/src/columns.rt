@@ -105,9 +105,9 @@ fn is_of_places<A: Allocator>(columns: &Columns<A>, at: usize) -> bool
     is_of_pair(at, columns.metres) || is_of_pair(at, columns.degrees) || is_at(at, columns.zone)
 }
 
-// Whether the column at this place is read.
+/// Whether the column at this place is read.
 #[tactic(auto, unfolding(crate::specs::Columns::is_read))]
-pub(crate) fn is_read<A: Allocator>(columns: &Columns<A>, at: usize) -> bool
+pub fn is_read<A: Allocator>(columns: &Columns<A>, at: usize) -> bool
     ensures { result ≡ is_read columns.now at }
 {
     columns.animal.contains(&at)

@@ -89,6 +89,11 @@ pub enum TitleFault<'a> {
     LocalTime {
         at: usize,
     },
+    /// The title of a column of the time says another clock than that of the zone that was named.
+    OtherClock {
+        at: usize,
+        zone: &'a [u8],
+    },
     /// The title of a column of the time says that of UTC, and another zone was named.
     UtcTime {
         at: usize,
@@ -128,6 +133,7 @@ impl<'a> TitleFault<'a> {
             | TitleFault::SeparatorLine
             | TitleFault::OtherUnit { .. }
             | TitleFault::LocalTime { .. }
+            | TitleFault::OtherClock { .. }
             | TitleFault::UtcTime { .. } => Some(FaultKind::Columns),
         }
     }

@@ -168,9 +168,8 @@ fn other_animals<A: Allocator>(
     if !named.animal.is_empty() {
         return Ok(others);
     }
-    let own = titles[*taken];
     for (at, title) in titles.iter().enumerate() {
-        if is_usual(title, &ANIMALS) && !comes_to(title, own) {
+        if at != *taken && is_usual(title, &ANIMALS) {
             others.push(at)?;
         }
     }

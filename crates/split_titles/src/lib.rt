@@ -19,7 +19,7 @@ mod sentences_of_said;
 mod units;
 mod usual;
 
-pub use columns::{Columns, Marks, Pair, not_read};
+pub use columns::{Columns, Marks, Pair, is_read, not_read};
 pub use fault::{FaultKind, PassedOver, TitleFault};
 pub use find::find_columns;
 pub use makers::maker_of;

@@ -4,8 +4,24 @@ use crate::columns::{Columns, is_read};
 use crate::fault::{PassedOver, TitleFault};
 use crate::lookup::{is_usual, require};
 use crate::named::{Named, Role};
-use crate::usual::{ODD_CLASSES, ODD_MARKS, UTM_ZONE};
+use crate::plain::comes_to;
+use crate::usual::{
+    ALGORITHM_OUTLIER, ARGOS_CLASSES, DOPS, FIX_TYPES, IMPORT_OUTLIER, MANUAL_OUTLIER,
+    MANUAL_VALID, ODD_CLASSES, ODD_MARKS, SENSOR, SENSOR_NUMBER, TIMES, USE, UTM_ZONE, VISIBLE,
+};
 use std::alloc::Allocator;
+
+// Titles of marks and of sensors, which no option names.
+const UNNAMED: [&str; 8] = [
+    USE,
+    VISIBLE,
+    MANUAL_OUTLIER,
+    ALGORITHM_OUTLIER,
+    IMPORT_OUTLIER,
+    MANUAL_VALID,
+    SENSOR,
+    SENSOR_NUMBER,
+];
 
 // The first column of one of these titles that is not read.
 fn unread<A: Allocator>(titles: &[&[u8]], columns: &Columns<A>, usuals: &[&str]) -> Option<usize> {
@@ -81,6 +97,66 @@ fn refuse_zone<'a, A: Allocator>(
     }
 }
 
+// The columns whose titles come to this one: the first that is read, and the first that is not, in the order of columns.
+fn twins<A: Allocator>(
+    titles: &[&[u8]],
+    columns: &Columns<A>,
+    title: &str,
+) -> Option<(usize, usize)> {
+    let mut read: Option<usize> = None;
+    let mut other: Option<usize> = None;
+    for (at, own) in titles.iter().enumerate() {
+        if !comes_to(own, title.as_bytes()) {
+            continue;
+        }
+        if is_read(columns, at) {
+            read = read.or(Some(at));
+        } else {
+            other = other.or(Some(at));
+        }
+    }
+    match (read, other) {
+        (Some(one), Some(two)) => Some((one.min(two), one.max(two))),
+        _ => None,
+    }
+}
+
+// Refuses two columns of one of these titles, of which one is read and the other is not.
+fn refuse_twins<'a, A: Allocator>(
+    titles: &[&[u8]],
+    columns: &Columns<A>,
+    usuals: &[&'static str],
+    is_named: bool,
+) -> Result<(), TitleFault<'a>> {
+    for title in usuals {
+        match twins(titles, columns, title) {
+            Some((first, second)) if !is_named => {
+                return Err(TitleFault::OneTitle {
+                    first,
+                    second,
+                    title,
+                });
+            }
+            _ => {}
+        }
+    }
+    Ok(())
+}
+
+// Refuses two columns of one title that says which fixes count, or when they were, and that was not named, of which one is read
+// and the other is not.
+fn refuse_all_twins<'a, A: Allocator>(
+    titles: &[&[u8]],
+    named: &Named<'a>,
+    columns: &Columns<A>,
+) -> Result<(), TitleFault<'a>> {
+    refuse_twins(titles, columns, &UNNAMED, false)?;
+    refuse_twins(titles, columns, &TIMES, !named.time.is_empty())?;
+    refuse_twins(titles, columns, &ARGOS_CLASSES, named.argos.is_some())?;
+    refuse_twins(titles, columns, &DOPS, named.dop.is_some())?;
+    refuse_twins(titles, columns, &FIX_TYPES, named.fix.is_some())
+}
+
 // Refuses the first column that would be passed over and may change what is read.
 pub(crate) fn refuse_passed_over<'a, A: Allocator>(
     titles: &[&[u8]],
@@ -89,5 +165,6 @@ pub(crate) fn refuse_passed_over<'a, A: Allocator>(
 ) -> Result<(), TitleFault<'a>> {
     refuse_classes(titles, named, columns)?;
     refuse_marks(titles, columns)?;
-    refuse_zone(titles, named, columns)
+    refuse_zone(titles, named, columns)?;
+    refuse_all_twins(titles, named, columns)
 }

@@ -1,6 +1,6 @@
 // What the titles of columns that are read say of units and clocks is what they are read in, or refused.
 
-use crate::clocks::{ClockSaid, clock_said, is_of_utc};
+use crate::clocks::{ClockSaid, clock_said, is_of_utc, is_other_clock};
 use crate::columns::{Columns, Pair};
 use crate::fault::TitleFault;
 use crate::named::Named;
@@ -37,6 +37,9 @@ fn refuse_clock<'a>(
 ) -> Result<(), TitleFault<'a>> {
     match (clock_said(title_at(titles, at)), zone) {
         (ClockSaid::Local(_), None) => Err(TitleFault::LocalTime { at }),
+        (ClockSaid::Local(word), Some(zone)) if is_other_clock(word, zone) => {
+            Err(TitleFault::OtherClock { at, zone })
+        }
         (ClockSaid::Utc(_), Some(zone)) if !is_of_utc(zone) => Err(TitleFault::UtcTime {
             at,
             zone,

@@ -1,6 +1,6 @@
 // The sentences in which a table is refused for what a title says of units and clocks.
 
-use crate::clocks::{ClockSaid, clock_said, whole_hours};
+use crate::clocks::{ClockSaid, clock_said, is_zone, whole_hours};
 use crate::sentences::{push, push_column, title_at};
 use crate::units::unit_said;
 use std::alloc::{AllocError, Allocator};
@@ -39,8 +39,11 @@ pub(crate) fn push_unit<A: Allocator>(
     }
 }
 
-// Appends the zone of an offset of whole hours, or else one as an example.
+// Appends the zone that a word names, or that of its offset of whole hours, or else one as an example.
 fn push_zone<A: Allocator>(text: &mut Vec<u8, A>, word: &[u8]) -> Result<(), AllocError> {
+    if is_zone(word) {
+        return text.extend_from_slice(word);
+    }
     match whole_hours(word) {
         Some((is_ahead, hours)) => {
             push(text, if is_ahead { "Etc/GMT-" } else { "Etc/GMT+" })?;
@@ -66,6 +69,25 @@ pub(crate) fn push_local<A: Allocator>(
         ", and without --tz times are those of UTC: name their zone, as by --tz ",
     )?;
     push_zone(text, word)
+}
+
+// Appends that a column of the time says another clock than that of a zone.
+pub(crate) fn push_other_clock<A: Allocator>(
+    text: &mut Vec<u8, A>,
+    titles: &[&[u8]],
+    at: usize,
+    zone: &[u8],
+) -> Result<(), AllocError> {
+    let word = match clock_said(title_at(titles, at)) {
+        ClockSaid::Local(word) => word,
+        _ => b"",
+    };
+    push_says(text, titles, at, word)?;
+    push(text, ", and --tz is ")?;
+    text.extend_from_slice(zone)?;
+    push(text, ": name its own zone, as by --tz ")?;
+    push_zone(text, word)?;
+    push(text, ", or rename the column")
 }
 
 // Appends that a column of the time says the clock of UTC, beside another zone.

@@ -43,6 +43,8 @@ pub struct Words<'a> {
     pub name: Option<&'a str>,
     /// Words that are missing wherever they stand (`--na`).
     pub missing: Vec<&'a [u8]>,
+    /// Whether the user named such words, and not a preset alone.
+    pub names_missing: bool,
     /// Which fixes are taken.
     pub choices: Choices<'a>,
     /// Whether fixes that are not used are written too, with a mark (`--mark`).
@@ -99,6 +101,7 @@ fn words_in<'a>(alloc: Global, matches: &ArgMatches<'a>) -> Result<Words<'a>, Wo
         form_words: texts.time_format.unwrap_or(""),
         zone_name: zone_name_in(alloc, matches.get_str("tz"))?,
         missing: missing_words(alloc, texts.na)?,
+        names_missing: matches.get_str("na").is_some(),
         choices: choices_of(alloc, matches)?,
         keeps_marks: matches.get_flag("mark"),
         skips_unnamed: matches.get_flag("skip-unnamed"),

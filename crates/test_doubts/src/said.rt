@@ -64,7 +64,8 @@ const NO_FILTERS: Filters<'static> = Filters {
 
 const UTC: TimesRead<'static> = TimesRead {
     form: b"",
-    clock: b"UTC",
+    clock: None,
+    clock_name: b"UTC",
 };
 
 const NOT_WANTED: Wanted<'static> = Wanted {

@@ -1,7 +1,7 @@
 // Tests of decimals in whole units. What is expected was computed by Python's `fractions`.
 
 use range_plane::Scale;
-use split_numbers::{trillionths, whole_units};
+use split_numbers::{is_same_number, trillionths, whole_units};
 
 #[test]
 fn decimals_come_to_the_nearest_unit(rt: HostRuntime) {
@@ -276,4 +276,33 @@ fn commas_stand_before_decimals_where_they_may(rt: HostRuntime) {
         assert!(rt; whole_units(text, Scale::Metre, true).is_none(), "{text:?}");
     }
     assert!(rt; whole_units(b"562000,5", Scale::Metre, false).is_none());
+}
+
+#[test]
+fn zeros_behind_its_decimals_do_not_change_a_number(rt: HostRuntime) {
+    for (one, other) in [
+        (b"-9999".as_slice(), b"-9999".as_slice()),
+        (b"-9999", b"-9999.0"),
+        (b"-9999.000", b"-9999"),
+        (b"999.5", b"999.500"),
+        (b"0.10", b"0.1"),
+    ] {
+        assert!(rt; is_same_number(one, other, false), "{one:?} {other:?}");
+    }
+    for (one, other) in [
+        (b"-9999".as_slice(), b"9999".as_slice()),
+        (b"-9999", b"-9999.1"),
+        (b"999.5", b"999.05"),
+        (b"999.50", b"999.501"),
+        (b"1", b"10"),
+        (b"1", b"1."),
+        (b"x", b"x"),
+        (b"9,0", b"9"),
+        (b"", b""),
+    ] {
+        assert!(rt; !is_same_number(one, other, false), "{one:?} {other:?}");
+    }
+    assert!(rt; is_same_number(b"9,0", b"9", true));
+    assert!(rt; is_same_number(b"9,50", b"9.5", true));
+    assert!(rt; !is_same_number(b"9,05", b"9.5", true));
 }

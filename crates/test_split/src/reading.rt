@@ -709,8 +709,8 @@ fn a_word_that_is_missing_is_so_in_every_cell(rt: HostRuntime) -> Result<(), Fai
         &rt,
         rt.alloc(),
         &sheet,
-        "v,0,-9999,2\n?,1,1,2\nv,2,1,-9999.0\n",
-        "[v] | [] | 0/0: no coordinates; -/0: no animal; 0/0 2: 1 -9999",
+        "v,0,-9999,2\n?,1,1,2\nv,2,1,-9999.0\nv,3,1,-9999.1\n",
+        "[v] | [] | 0/0: no coordinates; -/0: no animal; 0/0: no coordinates; 0/0 3: 1 -9999",
     )
 }
 

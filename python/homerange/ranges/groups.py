@@ -9,11 +9,12 @@ from typing import Any, Callable, NamedTuple, Sequence
 import numpy
 import pandas
 
-from ..errors import UNPRINTABLE, refuse
+from ..errors import BYTES, UNPRINTABLE, one_line, refuse
 from ..read.cells import cells_of, odd_row, row_named
 from ..read.changes import with_named_levels
-from ..read.fixes import Fixes
-from ..read.reading import ReadTable
+from ..read.fixes import Fixes, reading_of
+from ..read.reading import OWN, ReadTable
+from ..read.refusals import UNREAD
 from .outer import Track
 from .tracks import Tracks
 
@@ -55,7 +56,7 @@ def check_by(by: Any, is_file: bool = False) -> None:
         refuse("by goes by rows, and fixes of a file stand in another order: read it before by read_fixes, and take a value for each "
                "of the fixes")
     is_list = pandas.api.types.is_list_like(by) and hasattr(by, "__len__")
-    if not isinstance(by, str) and not callable(by) and (not is_list or isinstance(by, (dict, set, frozenset, pandas.DataFrame))):
+    if not isinstance(by, str) and not callable(by) and (not is_list or isinstance(by, (dict, set, frozenset, pandas.DataFrame, *BYTES))):
         refuse(f"by={by!r} is none of {', '.join(map(repr, PERIODS))}, no column of the fixes, no value for each of them, and no "
                "function of them")
 
@@ -73,22 +74,37 @@ def labels_of(table: ReadTable, by: Any) -> list[str]:
             refuse(f"by={by!r} is a period of the calendar, and a column too: by=fixes[{by!r}] takes the column")
         return periods(fixes, by)
     if isinstance(by, str):
-        rows = with_named_levels(fixes)
-        if [*rows.columns].count(by) > 1:
-            refuse(f"by: there are two columns {by!r}: rename one", "ambiguous")
-        if by not in rows:
-            refuse(f"by: there is no column {by!r}, and it is none of {', '.join(map(repr, PERIODS))}", "columns")
-        return given(rows[by], labels)
+        return given(column_named(table, by), labels)
     if callable(by) or table.frame is None or table.rows is None:
         return given(values_for(by(fixes) if callable(by) else by, fixes), labels)
     return given(values_for(by, table.frame).iloc[table.rows], labels)
+
+
+def column_named(table: ReadTable, by: str) -> pandas.Series:
+    """The column of a title: that of the frame that was read, also where its fixes have one of that title that is not of it; else
+    that of the fixes."""
+    rows = with_named_levels(table.fixes)
+    if by in OWN and table.frame is not None and by in (own := with_named_levels(table.frame)):
+        rows = own.iloc[table.rows]
+    if [*rows.columns].count(by) > 1:
+        refuse(f"by: there are two columns {by!r}: rename one", "ambiguous")
+    reading = reading_of(table.fixes)
+    unread = next((line.removeprefix(UNREAD) for line in reading.notes if line.startswith(UNREAD)), "")
+    is_of_file = not reading.titles and (by not in rows or table.frame is None and len(table.said) > 0)
+    if is_of_file and f", {one_line(by)}," in f", {unread},":
+        refuse(f"by: the column {by!r} of a file is not kept: read the file by pandas before, as by pandas.read_csv(..), and take that "
+               "in its place", "columns")
+    if by not in rows:
+        refuse(f"by: there is no column {by!r}, and it is none of {', '.join(map(repr, PERIODS))}", "columns")
+    return rows[by]
 
 
 def values_for(values: Any, frame: pandas.DataFrame) -> pandas.Series:
     """A value for each row of a frame, in their order: those of a Series go by its index."""
     if isinstance(values, pandas.Series):
         return aligned(values, frame)
-    count = len(values) if pandas.api.types.is_list_like(values) and hasattr(values, "__len__") else None
+    is_list = pandas.api.types.is_list_like(values) and hasattr(values, "__len__") and not isinstance(values, BYTES)
+    count = len(values) if is_list else None
     if count != len(frame) or getattr(values, "ndim", 1) != 1:
         refuse(f"by is {repr(values) if count is None else f'{count} values'} for {len(frame)} rows")
     if not isinstance(values, (list, tuple)):

@@ -14,14 +14,15 @@ import numpy
 import pandas
 
 from ..bar import progress_of
-from ..errors import ReportError, check_file, path_of, refuse, truth_of
+from ..errors import BYTES, ReportError, check_file, path_of, refuse, truth_of
 from ..program import Program, checksum_of, find_program, program_of
 from ..read.fixes import Fixes, clock_of, is_of_fixes, reading_of
 from ..read.reading import ReadTable, has_calendar, read_again, read_table, tell, times_of
 from ..read.systems import crs_named
-from ..record import Record, read_record
+from ..record import Record, difference_from_record, read_record
 from ..report import Corners, Percent, Report, Table, doubled_area, read as read_lines
 from ..units import UNITS, zone_of_time, zone_text
+from ..zones import text_of_crs
 from .groups import Group, check_by, group_tracks, is_period, labels_of
 from .growth import share
 from .outer import counts_within, polygon_kept
@@ -333,7 +334,7 @@ def whole_number(value: Any) -> int | None:
 
 def whole_numbers(values: Any, least: int, most: int, what: str) -> list[int]:
     """One whole number, or several, within bounds; all else is refused."""
-    several = isinstance(values, Iterable) and not isinstance(values, str) and getattr(values, "ndim", 1) > 0
+    several = isinstance(values, Iterable) and not isinstance(values, (str, *BYTES)) and getattr(values, "ndim", 1) > 0
     given = list(values) if several else [values]
     found = [number for number in map(whole_number, given) if number is not None and least <= number <= most]
     if not given or len(found) < len(given):
@@ -368,9 +369,9 @@ def home_range(
     levels: 1 to 8 whole numbers from 1 to 100. Level p keeps, of n fixes, the (p * n + 99) // 100 nearest to the mean
         of all, of fixes as near the earlier.
     by: makes a range of each group of an animal's fixes: of a 'year', a 'month' ('2024-05') or a 'season' of a year, by the
-        clock of the fixes; of a column of the fixes; of values, one for each fix, or for each row of a frame (a Series goes by its
-        index); or of what a function of the fixes answers. Seasons are those of meteorology and are named by their months,
-        '2024 Jun-Aug', and '2023-2024 Dec-Feb' for a December with the months behind it.
+        clock of the fixes; of a column of the frame, or of the fixes; of values, one for each fix, or for each row of a frame (a
+        Series goes by its index); or of what a function of the fixes answers. Seasons are those of meteorology and are named by
+        their months, '2024 Jun-Aug', and '2023-2024 Dec-Feb' for a December with the months behind it.
     program: the program; if left out, that in the environment as HOMERANGE, the package's own, that of the clone that the
         package is in, or homerange on PATH (README.md, Which program runs).
     jobs: how many processors are taken; if left out, all that this process may have.
@@ -429,10 +430,12 @@ def read_report(
         in the answers.
     tz: the time zone of the times in the answers, where the seconds of the files are those since 1970 in UTC.
     program: as in home_range.
-    record: split.txt of the files, from which it is known what was left out, the reference system and the shift.
+    record: split.txt of the files, from which it is known what was left out, the reference system and the shift. One of another
+        report or other files is refused, and so are another crs and another shift beside it (FrameError).
     """
-    if isinstance(files, (str, os.PathLike)) or not isinstance(files, Iterable):
-        refuse(f"files={files!r} are not several paths, such as [{files!r}]")
+    if isinstance(files, (str, os.PathLike, *BYTES)) or not isinstance(files, Iterable):
+        such = repr(files) if isinstance(files, (str, os.PathLike)) else "'fox.csv'"
+        refuse(f"files={files!r} are not several paths, such as [{such}]: leave files out where there are none")
     zone = zone_text(tz)
     check_grid(crs, zone, shift)
     report, paths = read_lines(check_file(path_of(path, "path")), rows_in), [check_file(path_of(file, "files")) for file in files]
@@ -444,7 +447,7 @@ def check_grid(crs: Any, tz: str, shift: Any) -> None:
     """Refuses what is no reference system, no time zone, or no two whole metres."""
     zone_of_time(tz)
     if crs is not None:
-        crs_named(crs)
+        crs_named(crs, "name that of the coordinates of the report, which are in metres")
     if not isinstance(shift, tuple) or len(shift) != 2 or None in map(whole_number, shift):
         refuse(f"shift={shift!r} are not two whole numbers, such as (1000000, 0)")
 
@@ -454,11 +457,37 @@ def ranges_of(report: Report, path: Path, files: Sequence[Path], crs: Any, tz: s
     """The home ranges of a report, of its file, of those that it was made from and of their record."""
     record = None if split is None else read_record(split)
     if record is not None:
+        check_record(record, report, files)
+        check_places(record, crs, shift)
         shift, crs = record.shift, record.system if crs is None else crs
     ranges = HomeRanges(report, tracks_of_files(report, files), crs=crs, tz=tz, named=program)
     ranges.shift, ranges.record, ranges.checksum = shift, record, checksum_of(path)
     ranges.files, ranges.split = [*files], split
     return ranges
+
+
+def check_record(record: Record, report: Report, files: Iterable[Path]) -> None:
+    """Refuses a record that is not that of a report, or not that of its files, where these are there."""
+    if record.unit != report.unit:
+        refuse(f"the report is in {report.unit}, and split.txt in {record.unit}: take the record of the tracks of this report", "text")
+    fault = difference_from_record(record, {name: table.fixes for name, table in report.tables.items()}, is_part=True)
+    if fault:
+        refuse(fault, "text")
+    sums = {*map(checksum_of, files)}
+    others = (name for name in report.tables if name in record.tracks and record.tracks[name].checksum not in {None, *sums})
+    odd = next(others, None)
+    if sums and odd is not None:
+        refuse(f"no file is the track of {odd} of which split.txt has the checksum: take the record of these files, or the files of this "
+               "record", "text")
+
+
+def check_places(record: Record, crs: Any, shift: tuple[int, int]) -> None:
+    """Refuses a reference system and a shift that are not those of a record."""
+    known = record.system or record.system_text
+    if crs is not None and known is not None and text_of_crs(crs) not in (record.system_text, text_of_crs(known)):
+        refuse(f"crs={crs!s:.60} is not {record.system_text}, which the coordinates are of, by split.txt: leave crs out", "crs")
+    if any(shift) and shift != record.shift:
+        refuse(f"shift={shift} is not {record.shift}, by which split.txt has coordinates shifted: leave shift out")
 
 
 def check_ranges(ranges: Any) -> None:

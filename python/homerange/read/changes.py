@@ -133,7 +133,8 @@ def checksum_of_rows(fixes: pandas.DataFrame, titles: frozenset[str]) -> str:
         hashes = pandas.util.hash_pandas_object(rows, index=False)
     except TypeError:
         return ""
-    return hashlib.sha256(repr([*rows.columns]).encode("utf-8", "surrogatepass") + hashes.to_numpy().tobytes()).hexdigest()
+    columns = repr([(title, kind.kind) for title, kind in zip(rows.columns, rows.dtypes)])  # moments and nanoseconds have one hash
+    return hashlib.sha256(columns.encode("utf-8", "surrogatepass") + hashes.to_numpy().tobytes()).hexdigest()
 
 
 def left_since(fixes: pandas.DataFrame, reading: Reading) -> Counter[tuple[str, str]]:

@@ -143,13 +143,17 @@ class Fixes(pandas.DataFrame):
         return pandas.DataFrame(rows, columns=["animal", "reason", "fixes"])
 
     def points(self) -> geopandas.GeoDataFrame:
-        """The fixes as points, in their reference system. Wants geopandas."""
+        """The fixes as points, in their reference system. Refused is what ``home_range`` refuses of their columns. Wants geopandas."""
         try:
             import geopandas
         except ImportError:
             refuse("points want geopandas, which is not installed (python3-geopandas)")
-        places = geopandas.points_from_xy(self["easting"], self["northing"])
-        return geopandas.GeoDataFrame(pandas.DataFrame(self, copy=True), geometry=places, crs=reading_of(self).system)
+        from .reading import check_fixes
+
+        system = reading_of(self).system
+        check_fixes(self)
+        places = geopandas.points_from_xy(*(pandas.to_numeric(self[title]) for title in PLACES))
+        return geopandas.GeoDataFrame(pandas.DataFrame(self, copy=True), geometry=places, crs=system)
 
     def __repr__(self) -> str:
         table = str(super().__repr__())

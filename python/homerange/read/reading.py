@@ -24,7 +24,7 @@ from ..zones import crs_of, text_of_crs
 from .call import as_arguments, split_table
 from .cells import cells_of
 from .changes import PLACES, checksum_of_rows, judged_rows, left_since, own_titles, refuse_changed, refuse_unread, seen, with_named_levels
-from .fixes import Fixes, Reading, clock_of, is_known, reading_of
+from .fixes import Fixes, Reading, clock_of, is_known, is_of_classes, reading_of
 from .refusals import COLUMNS, check_cells, columns_read, refuse_text, steps_said
 from .systems import are_degrees, crs_named, options_of, refuse_zone, scale_said
 from .text import (
@@ -80,13 +80,24 @@ def read_fixes(x: Any, *, program: str | os.PathLike[str] | None = None, **optio
     (HomeRangeInfo). What cannot be right is refused (FrameError), with the row; ProgramError is raised where the program is not
     there.
     """
-    with tempfile.TemporaryDirectory(prefix="homerange-") as folder:
-        is_read = isinstance(x, Fixes) and is_known(x)
-        table = read_again(x, options, Path(folder), program) if is_read else read_table(x, options, Path(folder), program)
+    table = read_either(x, options, program)
     tell(table.said)
     own = reading_of(table.fixes)
     table.fixes.reading = replace(own, rows=checksum_of_rows(table.fixes, own.titles), seen=seen(table.fixes, own.sources))
     return table.fixes
+
+
+def read_either(x: Any, options: Mapping[str, Any], program: str | os.PathLike[str] | None = None) -> ReadTable:
+    """Fixes that were read before, read again, or a table that is read for the first time."""
+    with tempfile.TemporaryDirectory(prefix="homerange-") as folder:
+        is_read = isinstance(x, Fixes) and is_known(x)
+        return read_again(x, options, Path(folder), program) if is_read else read_table(x, options, Path(folder), program)
+
+
+def check_fixes(fixes: Fixes) -> None:
+    """Refuses fixes as they are refused that are read again, if their columns are not such as fixes have."""
+    if not is_of_classes(fixes) or numpy.isinf(fixes[[*PLACES]].to_numpy(dtype="float64", na_value=numpy.nan)).any():
+        read_either(fixes, {})
 
 
 def read_table(
@@ -122,7 +133,7 @@ def read_again(fixes: Fixes, options: Mapping[str, Any], folder: Path, program: 
     if not len(fixes):
         refuse("no fix is left", "empty")
     if "time" in fixes:
-        refuse_without_zone(fixes["time"], before.tz)
+        refuse_without_zone(fixes["time"])
     if before.rows == checksum_of_rows(fixes, before.titles) and not wishes:
         refuse_changed(fixes, before)
         return ReadTable(fixes)
@@ -144,16 +155,16 @@ def read_again(fixes: Fixes, options: Mapping[str, Any], folder: Path, program: 
     return ReadTable(table, new, fixes, found.rows)
 
 
-def refuse_without_zone(times: pandas.Series, zone: str) -> None:
-    """Refuses times of fixes that have no zone any more, as date-times, days or text."""
-    own = "fixes['time']"
+def refuse_without_zone(times: pandas.Series) -> None:
+    """Refuses times of fixes that have no zone any more, as date-times, days or text, in whatever form."""
     if has_times(times):
         has_none = None in zones_in(times)
     else:
         is_text = pandas.api.types.infer_dtype(times, skipna=True) in ("string", "date", "categorical")
-        has_none, own = is_text and any(cell and not OFFSET.search(cell) for cell in cells_of(times)), f"pandas.to_datetime({own})"
+        has_none = is_text and any(cell and not OFFSET.search(cell) for cell in cells_of(times))
     if has_none:
-        refuse(f"the times of fixes have no zone any more: give them one, as by {own}.dt.tz_localize({zone!r})", "time")
+        refuse("the times of fixes have no zone any more: keep those that read_fixes gave, or read pandas.DataFrame(fixes) as a new table, "
+               "with tz for the clock of its times", "time")
 
 
 def text_again(fixes: Fixes, before: Reading, wishes: Mapping[str, Any]) -> Text:
@@ -305,13 +316,6 @@ def times_of(seconds: pandas.Series, tz: str) -> pandas.Series:
     nanoseconds = numpy.where(whole < SINCE_1970[1], 10 ** 9 * whole, numpy.iinfo("int64").min)
     times = pandas.Series(nanoseconds.view("datetime64[ns]"), seconds.index, name=seconds.name)
     return times.dt.tz_localize("UTC").dt.tz_convert(tz)
-
-
-def dates_of(times: pandas.Series) -> pandas.Series:
-    """Times in UTC, also those that are seconds, as of 1970."""
-    if pandas.api.types.is_integer_dtype(times.dtype):
-        return times_of(times.fillna(0).astype("int64"), "UTC").where(times.notna())
-    return times.dt.tz_convert("UTC")
 
 
 def with_columns(fixes: Fixes, frame: pandas.DataFrame, rows: NDArray[numpy.int64]) -> Fixes:

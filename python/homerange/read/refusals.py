@@ -5,6 +5,7 @@ from __future__ import annotations
 
 import datetime as clock
 import re
+from decimal import Decimal
 from typing import Any, Iterable, Iterator, NamedTuple, NoReturn, Sequence
 
 import numpy
@@ -14,7 +15,8 @@ from ..errors import FrameError, one_line, refuse
 from ..record import Record
 from ..units import UNITS
 from .call import as_arguments
-from .cells import cell_of, is_missing, odd_row, row_named
+from .cells import IANA, cell_of, is_missing, is_time, odd_row, row_named
+from .systems import TITLES_OF_DEGREES
 from .text import NAME, Column, Text, has_times, in_own_words, inner_type, titles_named, zones_in
 
 # What the program says of files, and what is said of frames in its place.
@@ -23,7 +25,10 @@ OF_FILES = {re.compile("(?<=may stand before thousands): export without it"): ":
                 "give the points the reference system that they have, as by frame.set_crs(4326, allow_override=True)",
             re.compile("(?<=a number that has lost digits): .*"): ": read its column as text, as by dtype=str",
             re.compile(f"^{NAME} has (.*): is its separator another[?]$"): r"the data frame has \1"}
+HELP_SWAPPED = ("are x and y of the points the other way? frame.set_geometry(geopandas.points_from_xy(frame.geometry.y, frame.geometry.x, "
+                "crs=frame.crs)) turns them")
 DEGREE = 111_320  # metres of one at the equator
+TIMES = (clock.date, clock.time, clock.timedelta, pandas.Period, numpy.datetime64, numpy.timedelta64)  # and lengths of them
 COLUMNS, UNREAD, NO_ANIMAL = "columns: ", "not read: ", "no column has a usual title for the animal"  # how lines begin
 
 
@@ -47,6 +52,8 @@ def with_remedy(said: str, text: Text) -> str:
         return re.sub(r": (if it is one|write|name)\b.*", f": {help_for_lengths(length, text)}", said)
     if "both fit the time: " in said or "and not a time " in said:
         return with_moments_alone(said, text)
+    if str(text.options.get("lat")).startswith(TITLES_OF_DEGREES["lat"]):
+        return re.sub(": are their columns to be named the other way.*", f": {HELP_SWAPPED}", said)
     if text.shapes is not None and said.startswith("there are no columns of usual titles"):
         return (f"there are no columns of usual titles for coordinates, and {text.shapes} has shapes: make points of a GeoDataFrame "
                 f"of them, as by geopandas.GeoDataFrame(frame, geometry={text.shapes!r}, crs=..)")
@@ -87,15 +94,23 @@ def with_moments_alone(said: str, text: Text) -> str:
     own = [column for column in text.columns if one_line(column.title) in titles]
     moments = [column for column in own if has_times(column.values)]
     whole = [column.title for column in moments if not are_midnights(column)]
-    days = [column.title for column in moments if None not in zones_in(column.values)]
+    days = [column for column in moments if None not in zones_in(column.values)]
     if len(whole) == 1:
         helps = f"{one_line(whole[0])} has moments: name it alone, as by --time {whole[0]!r}"
     elif days and not whole:
-        helps = f"{one_line(days[0])} has moments: make days of it, as by .dt.date"
+        helps = f"{one_line(days[0].title)} has moments: make days of it, as by .dt.date{with_zone(days[0], text)}"
     else:
         are_full = len(whole) > 1 or all(pandas.api.types.infer_dtype(column.values, skipna=True) == "date" for column in own)
         return said.split(", or both, as by ")[0] if are_full else said
     return f"{re.sub(': (name one|if it is one|write|name) .*', '', said)}: {helps}"
+
+
+def with_zone(column: Column, text: Text) -> str:
+    """What else helps where days are made of moments, whose zone they lose, if none is named."""
+    zones = sorted(map(str, zones_in(column.values)))
+    if text.clock is None or zones == ["UTC"]:
+        return ""
+    return f", and name its zone, as by tz={zones[0]!r}" if IANA.fullmatch(zones[0]) else ", and name the zone of its clock by tz"
 
 
 def are_midnights(column: Column) -> bool:
@@ -184,7 +199,7 @@ def refuse_names(text: Text, column: Column) -> None:
     values = column.values
     if isinstance(values.dtype, numpy.dtype) and values.dtype.kind in "iu" or pandas.api.types.infer_dtype(values) == "string":
         return
-    found = ((at, what_no_name_is(value)) for at, value in enumerate(values.tolist()))
+    found = ((at, what_no_name_is(value)) for at, value in enumerate(values.to_numpy() if is_time(values.dtype) else values.tolist()))
     at, what = next(((at, what) for at, what in found if what is not None), (None, None))
     if at is not None:
         refuse(f"{row_named(text.labels, at)}: {column.title} is {cell_of(values.iloc[at])}, {what}: make it text", "name", at + 1)
@@ -196,9 +211,10 @@ def what_no_name_is(value: Any) -> str | None:
         return None
     if isinstance(value, (bool, numpy.bool_)):
         return "a truth"
-    if isinstance(value, (clock.date, pandas.Period)):
+    if isinstance(value, TIMES):
         return "a time"
-    return "a number that is not whole" if isinstance(value, (float, numpy.floating)) and value % 1 > 0 else None
+    is_number = isinstance(value, (float, numpy.floating)) or isinstance(value, Decimal) and not value.is_finite()
+    return "a number that is not whole" if is_number and not float(value).is_integer() else None
 
 
 def steps_said(text: Text, record: Record) -> list[str]:

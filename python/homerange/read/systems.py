@@ -28,8 +28,8 @@ TITLES = {"easting": "point easting", "northing": "point northing"}
 TITLES_OF_DEGREES = {"lon": "point longitude", "lat": "point latitude"}
 
 
-def crs_named(crs: Any) -> Any:
-    """A reference system by what names it, which has to be a plane in metres."""
+def crs_named(crs: Any, helps: str | None = None) -> Any:
+    """A reference system by what names it, which has to be a plane in metres; with what helps where its coordinates are no columns."""
     try:
         from pyproj import CRS
     except ImportError:
@@ -43,9 +43,9 @@ def crs_named(crs: Any) -> Any:
     if found is None or is_name and found.name.lower() != crs.lower():
         refuse(f"crs={crs!r} names no reference system", "crs")
     if found.is_geographic:
-        refuse(f"the CRS {found.name} has longitude and latitude, which are no plane coordinates: name their columns by lon and "
-               "lat, without crs", "crs")
-    check_plane(found, HELP_NAMED)
+        refuse(f"the CRS {found.name} has longitude and latitude, which are no plane coordinates: "
+               f"{helps or 'name their columns by lon and lat, without crs'}", "crs")
+    check_plane(found, helps or HELP_NAMED)
     return None if is_local(found) else found
 
 

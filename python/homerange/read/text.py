@@ -14,7 +14,7 @@ import numpy
 import pandas
 
 from ..errors import one_line, refuse
-from .cells import IANA, Cells, are_like_thousands, cells_of, is_time, zone_name
+from .cells import IANA, Cells, are_like_thousands, cells_of, is_missing, is_time, zone_name
 from .systems import TITLES, TITLES_OF_DEGREES, columns_of_points, crs_named, is_local, options_of
 
 if TYPE_CHECKING:
@@ -179,7 +179,7 @@ def has_times(values: pandas.Series) -> bool:
     kind = inner_type(values.dtype)
     if is_time(kind) or isinstance(kind, pandas.PeriodDtype) or "timestamp" in str(kind):
         return True
-    return bool(kind == object and pandas.api.types.infer_dtype(values, skipna=True) == "datetime")
+    return bool(kind == object and pandas.api.types.infer_dtype(values, skipna=True) in ("datetime", "datetime64"))
 
 
 def inner_type(kind: Any) -> Any:
@@ -192,7 +192,8 @@ def zones_in(values: pandas.Series) -> set[str | None]:
     kind = inner_type(values.dtype)
     if kind == object:
         own = values.cat.categories if isinstance(values.dtype, pandas.CategoricalDtype) else values
-        return {zone_name(value.tzinfo) for value in own if isinstance(value, clock.datetime) and value is not pandas.NaT}
+        return {zone_name(getattr(value, "tzinfo", None)) for value in own
+                if isinstance(value, (clock.datetime, numpy.datetime64)) and not is_missing(value)}
     zone = getattr(getattr(kind, "pyarrow_dtype", kind), "tz", None)
     return {zone_name(zone)}
 

@@ -10,7 +10,7 @@ from decimal import Decimal
 from numbers import Integral, Real
 from typing import Any, Callable, Iterable, Mapping
 
-from ..errors import one_line, refuse, truth_of
+from ..errors import BYTES, one_line, refuse, truth_of
 
 LONGEST_WORD = 2 ** 16  # bytes of a word; the system takes some more
 LENGTHS = {"h": 3600, "min": 60, "s": 1}
@@ -105,23 +105,9 @@ def words_of(value: Any, option: str) -> str:
     """One word or number, several between commas, or several words and numbers."""
     if isinstance(value, (str, Real)):
         return word_of(value, option)
-    if isinstance(value, (bytes, Mapping)) or not isinstance(value, Iterable):
+    if isinstance(value, (*BYTES, Mapping)) or not isinstance(value, Iterable):
         refuse(f"{option}={type(value).__name__} is no name: a text, or several, is wanted")
     return listed([word_of(word, option) for word in value], option)
-
-
-def missing_of(value: Any, option: str) -> str:
-    """Words for what is missing, of which each that is a number stands for the ways in which tables write it."""
-    if isinstance(value, str) or isinstance(value, (bytes, Mapping)) or not isinstance(value, (Real, Iterable)):
-        return words_of(value, option)
-    several = [value] if isinstance(value, Real) else [*value]
-    return listed([way for word in several for way in ways_of(word, option)], option)
-
-
-def ways_of(word: Any, option: str) -> list[str]:
-    """A word; of a number its fewest digits, and the same with a 0 behind its point."""
-    text = word_of(word, option)
-    return [text] if isinstance(word, str) else [text, f"{text}0" if "." in text else f"{text}.0"]
 
 
 def word_of(word: Any, option: str) -> str:
@@ -156,7 +142,7 @@ FORMS: dict[str, Callable[[Any, str], str]] = {
     **dict.fromkeys(("argos", "crs", "dop", "easting", "encoding", "fix", "from_", "header", "lat", "lon", "name", "northing",
                      "time_format", "tz", "unit", "zone"), text_of),
     **dict.fromkeys(("animal", "time"), columns_of),
-    **dict.fromkeys(("argos_class", "fix_type", "sensor"), words_of), "na": missing_of,
+    **dict.fromkeys(("argos_class", "fix_type", "na", "sensor"), words_of),
     **dict.fromkeys(("max_dop", "max_speed"), number_of),
     **dict.fromkeys(("since", "until"), bound_of),
     "every": length_of, "skip_lines": count_of,

@@ -8,15 +8,16 @@ import sqlite3
 from contextlib import closing, contextmanager
 from itertools import chain, islice
 from pathlib import Path
-from typing import TYPE_CHECKING, Iterator
+from typing import TYPE_CHECKING, Any, Iterator
 
 import numpy
 import pandas
+from pandas.api.types import is_integer_dtype as is_whole
 
-from ..errors import check_place, files_as_said, path_of, refuse
+from ..errors import FileError, check_place, files_as_said, one_line, path_of, refuse
 from ..program import PACKAGE
 from ..ranges.home import HomeRanges, check_ranges
-from ..read.reading import dates_of, tell, times_of
+from ..read.reading import has_calendar, tell, times_of
 from ..units import UNITS
 from ..zones import code_of_crs
 
@@ -26,6 +27,7 @@ if TYPE_CHECKING:
     from ..ranges.tracks import Tracks
 
 ROWS = 100  # that are written together
+WRITERS = ("fiona", "pyogrio", "sqlite3")  # whose faults are none of Python's own
 NO_DATE = "1970-01-01T00:00:00.000Z"
 # Where no reference system is known: GDAL would take coordinates without one for degrees.
 LOCAL = 'LOCAL_CS["Undefined Cartesian SRS",UNIT["metre",1]]'
@@ -75,7 +77,7 @@ def polygons_of(ranges: HomeRanges) -> geopandas.GeoDataFrame:
     """The polygons of all levels, those of an animal together, with its times and the unit."""
     polygons, summary = ranges.polygons(ranges.levels), ranges.summary()
     levels, animals = len(ranges.levels), len(ranges.animals)
-    ends = {title: dates_of(summary[title]).iloc[::levels].tolist() * levels for title in ("first", "last")}
+    ends = {title: in_utc(summary[title]).iloc[::levels].tolist() * levels for title in ("first", "last")}
     order = numpy.arange(levels * animals).reshape(levels, animals).T.ravel()
     shapes = polygons.pop("geometry")
     return polygons.assign(**ends, unit=ranges.unit).set_geometry(shapes).iloc[order]
@@ -86,9 +88,16 @@ def fixes_of(ranges: HomeRanges, tracks: Tracks) -> pandas.DataFrame:
     counts = [*map(len, tracks.by_name.values())]
     second, *sides = numpy.concatenate([*tracks.by_name.values()]).T
     east, north = (side / UNITS[ranges.unit].per_metre - added for side, added in zip(sides, ranges.shift))
+    seconds = pandas.Series(second)
     return ranges.by_group(pandas.DataFrame({
         "animal": numpy.repeat(numpy.array([*tracks.by_name], dtype=object), counts), "easting": east, "northing": north,
-        "n": numpy.concatenate([numpy.arange(1, count + 1) for count in counts]), "time": times_of(pandas.Series(second), "UTC")}))
+        "n": numpy.concatenate([numpy.arange(1, count + 1) for count in counts]),
+        "time": times_of(seconds, "UTC") if has_calendar(second.min(), second.max()) else seconds}))
+
+
+def in_utc(times: pandas.Series) -> pandas.Series:
+    """Times in UTC; seconds that have no date as they are."""
+    return times if is_whole(times) else times.dt.tz_convert("UTC")
 
 
 def write_fixes(fixes: pandas.DataFrame, crs: object, path: Path) -> None:
@@ -105,8 +114,8 @@ def write_fixes(fixes: pandas.DataFrame, crs: object, path: Path) -> None:
     with closing(sqlite3.connect(path)) as base:
         system, = base.execute("SELECT srs_id FROM gpkg_geometry_columns WHERE table_name = 'fixes'").fetchone()
         # The one row of GDAL's has no thousandths of a second where GDAL is young.
-        base.execute("UPDATE fixes SET time = ?", times_text(first["time"]))
-        cells = [times_text(rest[title]) if title == "time" else rest[title].tolist() for title in titles]
+        base.execute("UPDATE fixes SET time = ?", times_cells(first["time"]))
+        cells = [times_cells(rest[title]) if title == "time" else rest[title].tolist() for title in titles]
         rows, places = zip(shapes_of(rest, system), *cells), f"(?{', ?' * len(titles)})"
         while some := list(islice(rows, ROWS)):
             row = f"INSERT INTO fixes (geom, {columns}) VALUES {', '.join([places] * len(some))}"
@@ -125,10 +134,12 @@ def shapes_of(fixes: pandas.DataFrame, system: int) -> list[bytes]:
     return [content[at:at + POINT.itemsize] for at in range(0, len(content), POINT.itemsize)]
 
 
-def times_text(times: pandas.Series) -> list[str | None]:
-    """Times as a GeoPackage has them."""
+def times_cells(times: pandas.Series) -> list[Any]:
+    """Times, or whole seconds, as a GeoPackage has them."""
+    if is_whole(times):
+        return list(times.tolist())
     whole = times.dt.tz_localize(None).to_numpy()
-    return [None if text == "NaT" else f"{text}Z" for text in numpy.datetime_as_string(whole, unit="ms").tolist()]
+    return [f"{text}Z" for text in numpy.datetime_as_string(whole, unit="ms").tolist()]
 
 
 def write_styles(path: Path, layers: list[str]) -> None:
@@ -148,7 +159,8 @@ def put_layers(ranges: HomeRanges, path: Path) -> list[str]:
     has_area = polygons["corners"] > 2
     flat = {level: polygons.loc[~has_area & (polygons["level"] == level), "animal"] for level in ranges.levels}
     written = ["ranges"] * bool(has_area.any()) + ["fixes"] * ranges.has_fixes
-    path.unlink(missing_ok=True)
+    open(path, "ab").close()  # what the system says where it cannot be written GDAL would not say
+    path.unlink()
     with without_date():
         if "ranges" in written:
             placed(polygons[has_area]).to_file(path, driver="GPKG", layer="ranges")
@@ -163,13 +175,18 @@ def put_layers(ranges: HomeRanges, path: Path) -> list[str]:
 def write_layers(ranges: HomeRanges, path: str | os.PathLike[str]) -> None:
     """Writes a GeoPackage for a GIS, in place of what is there: the layer ``ranges``, with a polygon for each animal and level
     that has an area (``animal``, ``level``, ``fixes``, ``kept``, ``corners``, ``hectares``, ``first`` and ``last`` in UTC, and
-    ``unit``); the layer ``fixes`` (``animal``, ``n``, ``time``), where they are known; and how QGIS draws both. Ranges by
-    groups have a column ``group`` in both. Without a reference system it is an undefined one of metres. Two runs write the
-    same bytes. Which polygons have no area is said in warnings. Wants geopandas."""
+    ``unit``); the layer ``fixes`` (``animal``, ``n``, ``time``), where they are known; and how QGIS draws both. Seconds that have
+    no date stand there as whole numbers. Ranges by groups have a column ``group`` in both. Without a reference system it is an
+    undefined one of metres. Two runs write the same bytes. Which polygons have no area is said in warnings. Wants geopandas."""
     check_ranges(ranges)
     file = check_place(path_of(path, "path"))
     if file.suffix != ".gpkg":
         refuse(f"path={str(path)!r}: a name that ends in .gpkg is wanted")
-    with files_as_said():
-        said = put_layers(ranges, file)
+    try:
+        with files_as_said():
+            said = put_layers(ranges, file)
+    except Exception as fault:
+        if type(fault).__module__.partition(".")[0] not in WRITERS:
+            raise
+        raise FileError(one_line(f"{file}: {fault}")) from fault
     tell(said)

@@ -9,6 +9,7 @@ from pathlib import Path
 from typing import Any, Mapping
 
 import pandas
+from pandas.api.types import is_integer_dtype as is_whole
 
 from ..about import Words, read_about
 from ..errors import ReportError, check_place, files_as_said, path_of, refuse
@@ -16,7 +17,6 @@ from ..program import Program, checksum_of, find_program, program_of
 from ..ranges.home import HomeRanges, check_whole, ranges_of
 from ..ranges.rows import rows_in
 from ..ranges.tracks import Tracks, track_text
-from ..read.reading import dates_of
 from ..read.tracks import path_of_track
 from ..record import read_record, record_in
 from ..report import Report
@@ -42,8 +42,12 @@ def cell_text(cell: str) -> str:
 
 
 def with_times(table: pandas.DataFrame, *titles: str) -> pandas.DataFrame:
-    """The table with its times as text in UTC; of seconds with those since 1970."""
-    return table.assign(**{title: dates_of(table[title]).dt.strftime("%Y-%m-%dT%H:%M:%SZ") for title in titles})
+    """The table with its times as text in UTC; seconds that have no date stay as they are."""
+    return table.assign(**{title: times_text(table[title]) for title in titles})
+
+
+def times_text(times: pandas.Series) -> pandas.Series:
+    return times if is_whole(times) else times.dt.tz_convert("UTC").dt.strftime("%Y-%m-%dT%H:%M:%SZ")
 
 
 def write_tables(ranges: HomeRanges, folder: Path) -> None:

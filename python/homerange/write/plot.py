@@ -21,6 +21,7 @@ from ..ranges.home import HomeRanges, whole_numbers
 if TYPE_CHECKING:
     from matplotlib.axes import Axes
 
+PLAIN = "rectilinear"  # what matplotlib calls plain axes
 AROUND = (1.25, 0.9)  # inches of a new figure around its axes, across and up
 
 
@@ -32,6 +33,11 @@ def check_axes(axes: Any, facets: bool) -> None:
         refuse("facets make a figure of their own: leave ax out")
     if not hasattr(axes, "get_xlim"):
         refuse(f"ax={axes!r} are no axes of matplotlib")
+    from matplotlib.projections import get_projection_names
+
+    kind = getattr(axes, "name", PLAIN)
+    if kind != PLAIN and kind in get_projection_names():
+        refuse(f"ax are axes of the projection {kind!r}, and plain ones are wanted, as those of pyplot.subplots()")
 
 
 def new_axes(width: float, height: float, texts: Sequence[str], animals: int) -> Any:

@@ -224,8 +224,13 @@ test_that("numbers are written with the fewest decimals", {
   expect_identical(decimal_text(c(0, 1, 9, 10, 123400000, 99999, NA), 5), c("0.0", "1e-05", "9e-05", "0.0001", "1234.0", "0.99999", ""))
   expect_identical(decimal_text(c(1, 5000, 12345678), 4), c("0.0001", "0.5", "1234.5678"))
   expect_identical(hectares_text(list(unit = "dm"), c(1, 500, 4000000, 2000001)), c("5e-07", "0.00025", "2.0", "1.0000005"))
-  expect_identical(seconds_text(c(0, NA, 9223372036, 9223372037)),
-                   c("1970-01-01T00:00:00Z", "", "2262-04-11T23:47:16Z", ""))
+})
+
+test_that("tables have times in UTC, and seconds that have no date as they are", {
+  of <- function(...) list(rows = data.frame(second = c(...)))
+  expect_identical(seconds_text(c(1e8, NA), of(1e8, 9223372035)), c("1973-03-03T09:46:40Z", ""))
+  expect_identical(seconds_text(.POSIXct(c(1e8, NA)), of(1e8, 9223372036)), c("100000000", ""))
+  expect_identical(seconds_text(c(0, NA), of(0, 1e8)), c("0", ""))
 })
 
 test_that("layers have the polygons with an area", {
@@ -325,6 +330,41 @@ test_that("evidence of the files of a frame has its record", {
   again <- local_evidence(ranges)
   expect_identical(record_of(again), record_of(first))
   expect_identical(attr(verified(again), "status"), 3L)
+})
+
+test_that("a record of another run is refused, and a folder for a file", {
+  skip_without_program()
+  table <- fixes_by_hand()
+  folder_of <- function(table, ...) local_evidence(quietly(home_range(table, 100, ...)), parent.frame())
+  own <- folder_of(table)
+  files <- list.files(file.path(own, "tracks"), "csv$", full.names = TRUE)
+  read <- function(record, files = NULL) read_report(file.path(own, "report.txt"), files = files, record = file.path(record, "tracks", "split.txt"))
+  refused <- function(call, text) expect_error(call, text, class = "homerange_text_error")
+  expect_identical(names(read(own, files)), names(read(own)))
+  refused(read(folder_of(table[-8, ])), "the report has 1 fixes of one, and split.txt has 0: was a track changed, or left out[?]$")
+  refused(read(folder_of(table[-1, ])), "the report has 4 fixes of old_boar, and split.txt has 3")
+  refused(read(folder_of(table, unit = "dm")), "the report is in m, and split.txt in dm: take the record of the tracks of this report$")
+  moved <- folder_of(transform(table, northing = northing + (animal == "one")))
+  expect_identical(names(read(moved)), names(read(own)))  # of which nothing tells that it is another
+  refused(read(moved, files), "no file is the track of one of which split.txt has the checksum: take the record of these files")
+  for (call in list(function(path) read_report(path), function(path) read_report(file.path(own, "report.txt"), record = path))) {
+    expect_error(call(own), "hand-in is a folder, and a file is wanted$", class = "homerange_file_error")
+    expect_error(call(""), "= \"\" is no path: it is empty$", class = "homerange_option_error")
+  }
+})
+
+test_that("layers of seconds without a date have whole seconds", {
+  skip_without_program()
+  skip_if_not_installed("sf")
+  for (start in c(0, 2^34)) {
+    table <- transform(walk("a", 12, 1), second = second + start)
+    folder <- local_evidence(quietly(home_range(table, c(50, 100))))
+    read <- function(layer) sf::st_read(file.path(folder, "ranges.gpkg"), layer, quiet = TRUE, int64_as_string = TRUE)
+    expect_identical(as.character(read("fixes")$time), sprintf("%.0f", table$second))
+    expect_identical(as.character(read("ranges")$first), rep(sprintf("%.0f", start), 2))
+    said <- verified(folder)
+    expect_true(any(startsWith(said, "held: ranges.gpkg: made again it has the same layers")), info = said)
+  }
 })
 
 test_that("files that are not those of their report or record are refused", {

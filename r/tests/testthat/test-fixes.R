@@ -98,6 +98,14 @@ test_that("columns of classes are read as meant, or refused by name", {
   days <- rep(as.Date("2024-05-01") + 0:1, 3)
   expect_error(named(transform(frame(), animal = days)), "row 1: animal is 2024-05-01, a time: make it text", class = "homerange_name_error")
   expect_error(named(transform(frame(), animal = c(TRUE, FALSE))), "row 1: animal is true, a truth: make it text", class = "homerange_name_error")
+  for (odd in c(Inf, -Inf)) {
+    expect_error(named(transform(frame(), animal = c(1, 1, odd))), "row 3: animal is -?inf, a number that is not whole", class = "homerange_name_error")
+  }
+  expect_error(named(transform(frame(), animal = I(c(1, 1, 1.5)))), "row 3: animal is 1.5, a number that is not whole", class = "homerange_name_error")
+  for (class in list("ITime", c("hms", "difftime"))) {
+    clocks <- structure(rep(36000, 6), class = class, units = "secs")
+    expect_error(named(transform(frame(), animal = clocks)), "row 1: animal is 10:00:00, a time: make it text", class = "homerange_name_error")
+  }
   for (title in c(NA, "")) {
     fixes <- named(`names<-`(cbind(frame(), 1), c(names(frame()), title)))
     expect_identical(dim(fixes), c(4L, 10L))
@@ -467,14 +475,16 @@ test_that("columns of fixes that got other classes are read as those of a frame"
     quietly(home_range(fixes, 100))
   }
   shown <- format(fixes$time)
-  for (column in list(shown, factor(shown), as.Date(fixes$time))) {
-    expect_error(changed("time", column), "the times of fixes have no zone any more: give them one, as by as.POSIXct[(].*, tz = \"Europe/Berlin\"[)]$", class = "homerange_time_error")
+  again <- quietly(read_fixes(transform(as.data.frame(fixes), time = shown), tz = "Europe/Berlin"))
+  expect_identical(as.numeric(again$time), as.numeric(fixes$time))
+  for (column in list(shown, factor(shown), as.Date(fixes$time), format(fixes$time, "%d.%m.%Y %H:%M"), format(fixes$time, "%H:%M"))) {
+    expect_error(changed("time", column), "the times of fixes have no zone any more: keep those that read_fixes gave, or read as.data.frame", class = "homerange_time_error")
   }
   for (column in list(as.POSIXct(shown, tz = "Europe/Berlin"), format(fixes$time, "%Y-%m-%dT%H:%M:%S%z"), `attr<-`(fixes$time, "tzone", "UTC"))) {
     expect_identical(as.numeric(homerange_curve(changed("time", column))$time), as.numeric(fixes$time))
   }
   expect_identical(summary(changed("easting", factor(table$easting)))$hectares, 4)
-  expect_error(changed("time", table$time - start), "row 1: time is '00:00:00' and not a time such as", class = "homerange_time_error")
+  expect_error(changed("time", table$time - start), "row 1: time is '00:00:00', which is a clock without a day", class = "homerange_time_error")
   expect_error(changed("easting", as.list(table$easting)), "row 1: easting is of the class list, of which no cell is known")
   expect_output(print(fixes["animal"]), "animal")
 })
@@ -680,7 +690,8 @@ test_that("columns that say which fixes count, and are not read, are refused", {
   used <- quietly(read_fixes(transform(table, use = 1, event.visible = TRUE)))
   for (title in c("visible", "manually-marked-outlier", "outlier")) is_refused(`[[<-`(used, title, value = c(0, 0, 1, 1)), said(title, "use"))
   fixes <- quietly(read_fixes(table))
-  is_refused(transform(fixes, Visible = c(0, 1, 1, 1), visible = 1), said("Visible", "visible"))
+  both <- transform(fixes, Visible = c(0, 1, 1, 1), visible = 1)
+  expect_error(quietly(home_range(both)), "column 5 'Visible' and column 6 'visible' both fit visible: rename one", class = "homerange_ambiguous_error")
   is_refused(transform(fixes, sensor.type = "gps", sensor.type.id = 82798), said("sensor.type.id", "sensor.type"))
   set <- transform(used, event.visible = c(TRUE, TRUE, FALSE, TRUE))
   text <- "'event.visible' was changed since this fix was read, and is not read, since 'use' goes before it: change that, or drop 'event.visible'"

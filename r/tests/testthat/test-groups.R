@@ -77,6 +77,26 @@ test_that("groups are those of a column, of values and of a function, of fixes a
   expect_identical(found, wanted_areas(table[marked$visible, ], table$sex[marked$visible]))
 })
 
+test_that("a title is that of the column of the frame, and none of a file", {
+  skip_without_program()
+  table <- frame()
+  collars <- rep_len(c("x", "y"), 80)
+  wanted <- wanted_areas(table, collars)
+  named <- transform(table, collar = animal, animal = collars)
+  expect_identical(areas_of(quietly(home_range(named, 100, by = "animal", animal = "collar"))), wanted)
+  moments <- transform(table, t2 = time, time = collars)[c("animal", "t2", "time", "easting", "northing")]
+  expect_identical(areas_of(quietly(home_range(moments, 100, by = "time", time = "t2"))), wanted)
+  sides <- transform(table, x_e = easting, y_n = northing, easting = 1, northing = collars)
+  expect_identical(areas_of(quietly(home_range(sides, 100, by = "northing", easting = "x_e", northing = "y_n"))), wanted)
+  path <- file.path(local_folder(), "fixes.csv")
+  write.csv(transform(named, sex = "f", time = format(time)), path, row.names = FALSE)
+  refused <- function(x, by, ...) expect_error(quietly(home_range(x, by = by, ...)), "of a file is not kept: read the file before", class = "homerange_columns_error")
+  refused(path, "sex", animal = "collar")
+  refused(path, "animal", animal = "collar")
+  refused(quietly(read_fixes(path, animal = "collar")), "sex")
+  expect_identical(names(quietly(home_range(path, 100, by = "animal"))), c("x x", "y y"))
+})
+
 test_that("what is no group is refused", {
   skip_without_program()
   table <- cbind(frame(), sex = "f", year = 1)

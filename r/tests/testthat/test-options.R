@@ -31,7 +31,7 @@ test_that("arguments become options", {
   expect_words(c("--from=lotek", "--unit=dm", "--zone=33N"), from = "lotek", unit = "dm", zone = "33N")
   expect_words(c("--animal=A,B", "--time=Day,Hour of it"), animal = "A,B", time = c("Day", "Hour of it"))
   expect_words(c("--na=-9999,N/A", "--sensor=gps,none"), na = c(-9999, "N/A"), sensor = "gps,none")
-  expect_words("--na=-9999,-9999.0,999.125,999.1250", na = c(-9999, 999.125))
+  expect_words("--na=-9999,999.125", na = c(-9999, 999.125))
   expect_words(c("--argos-class=3,2", "--fix-type=3D"), argos_class = c(3, 2), fix_type = factor("3D"))
   expect_words(c("--max-dop=5", "--max-speed=0.1"), max_dop = 5, max_speed = 0.1)
   expect_words(c("--max-dop=5.0", "--max-speed=0.0000001"), max_dop = "5.0", max_speed = 1e-7)

@@ -207,3 +207,33 @@ test_that("no fixes are no points", {
   expect_silent(points <- sf::st_as_sf(fixes[0, ]))
   expect_identical(c(nrow(points), sf::st_crs(points)$epsg), c(0L, 32633L))
 })
+
+test_that("points whose sides are the other way are turned", {
+  skip_without_program()
+  skip_if_not_installed("sf")
+  table <- data.frame(animal = "a", lon = 46 + 0:4 / 1000, lat = 96 + (0:4)^2 / 1000)
+  x <- sf::st_as_sf(table, coords = c("lon", "lat"), crs = 4326)
+  expect_error(quietly(home_range(x)), "latitude 96: are x and y of the points the other way[?] sf::st_geometry[(]x[)] <- .* turns them$", class = "homerange_data_error")
+  sf::st_geometry(x) <- sf::st_set_crs(sf::st_geometry(x) * matrix(c(0, 1, 1, 0), 2), sf::st_crs(x))
+  expect_identical(quietly(home_range(x))$zone, "47N")
+  expect_error(quietly(home_range(table)), "are their columns to be named the other way, by lon and lat[?]$", class = "homerange_data_error")
+})
+
+test_that("points of fixes are refused as ranges of them are", {
+  skip_without_program()
+  skip_if_not_installed("sf")
+  fixes <- quietly(read_fixes(transform(walk("a", 8, 1), animal = "a"), zone = "33N"))
+  with_side <- function(values) transform_fixes(fixes, "easting", values)
+  twice <- structure(cbind(as.data.frame(fixes), northing = 1), class = class(fixes), homerange = facts_of(fixes))
+  for (odd in list(with_side("x"), with_side(Inf), with_side(as.list(1:8)), twice)) {
+    wanted <- tryCatch(quietly(home_range(odd)), homerange_error = conditionMessage)
+    expect_type(wanted, "character")
+    expect_error(sf::st_as_sf(odd), wanted, fixed = TRUE, class = "homerange_data_error")
+  }
+  expect_error(sf::st_as_sf(`names<-`(fixes, c("animal", "second", "x", "northing"))), "these fixes have no column 'easting' any more", class = "homerange_columns_error")
+  whole <- sf::st_coordinates(sf::st_as_sf(fixes))
+  for (same in list(factor(fixes$easting), format(fixes$easting), as.integer(fixes$easting))) {
+    expect_identical(sf::st_coordinates(sf::st_as_sf(with_side(same))), whole)
+  }
+  expect_identical(sf::st_is_empty(sf::st_as_sf(with_side(replace(fixes$easting, 3, NA)))), seq_len(8) == 3)
+})

@@ -20,7 +20,9 @@ from .tables import moment
 
 Place = tuple[float, float]
 # A time with thousandths of a second, which some versions of GDAL leave out.
-FIRST, LAST, TIME = (f"strftime('%Y-%m-%dT%H:%M:%fZ', {title})" for title in ("first", "last", "time"))
+FIRST, LAST, TIME = (f"CASE typeof({title}) WHEN 'integer' THEN {title} ELSE strftime('%Y-%m-%dT%H:%M:%fZ', {title}) END"
+                     for title in ("first", "last", "time"))
+DATES = range(10 ** 8, 9_223_372_036)  # seconds that have one: where others are among them, all are whole numbers
 COLUMNS = {"ranges": f"geom, animal, level, fixes, kept, corners, hectares, {FIRST}, {LAST}, unit",
            "fixes": f"geom, animal, n, {TIME}"}
 ENVELOPES = {0: 0, 1: 4}  # how many numbers the box of a shape has, by its kind
@@ -100,6 +102,12 @@ class Layers:
     def __init__(self, animals: Sequence[Animal], run: Run) -> None:
         self.animals, self.run = animals, run
 
+    def time_of(self, second: int) -> int | str:
+        """A time as a GeoPackage has it, or the second where not all have a date."""
+        if not all(end in DATES for animal in self.animals for end in (animal.first, animal.last)):
+            return second
+        return f"{moment(second)[:-1]}.000Z"
+
     def with_area(self) -> dict[tuple[str, int], Percent]:
         """The kept fixes and the polygons that have an area, by animal and level."""
         return {(animal.name, level): animal.percents[level] for animal in self.animals for level in self.run.levels
@@ -155,7 +163,7 @@ class Layers:
         animals, unit = {animal.name: animal for animal in self.animals}, self.run.unit
         for (geometry, name, level, *numbers), (kept, hull) in zip(rows, wanted.values()):
             own = animals[name]
-            wishes = [own.used, kept, len(hull), hull.area2 / HECTARE[unit], time_of(own.first), time_of(own.last), unit]
+            wishes = [own.used, kept, len(hull), hull.area2 / HECTARE[unit], self.time_of(own.first), self.time_of(own.last), unit]
             if numbers != wishes:
                 said, wish = (", ".join(map(str, each)) for each in (numbers, wishes))
                 return f"its polygon of {name} at {level} % has {said}; {wish} are wanted"
@@ -166,7 +174,7 @@ class Layers:
     def fixes_fault(self, base: Connection) -> str | None:
         """How the fixes are not the used ones of the tracks, in their order."""
         (system, rows), wanted = self.rows_of(base, "fixes"), [
-            (animal.name, n, time_of(second), place) for animal in self.animals
+            (animal.name, n, self.time_of(second), place) for animal in self.animals
             for n, (second, place) in enumerate(zip(animal.seconds, animal.points), 1)]
         if len(rows) != len(wanted):
             return f"it has {len(rows)} fixes; {len(wanted)} are wanted"
@@ -193,9 +201,3 @@ def difference(path: Path, animals: Sequence[Animal], run: Run) -> str | None:
     """How the layers of a file are not those that are wanted; None where they are."""
     with closing(sqlite3.connect(f"{path.resolve().as_uri()}?mode=ro&immutable=1", uri=True)) as base:
         return Layers(animals, run).fault_of(base)
-
-
-def time_of(second: int | None) -> str | None:
-    """A time as a GeoPackage has it; None where there is none."""
-    text = moment(second)
-    return f"{text[:-1]}.000Z" if text else None

@@ -12,6 +12,7 @@ EPOCH = datetime(1970, 1, 1)
 ISO = re.compile(r"(\d{4}-\d\d-\d\d)(?:[ T](\d\d:\d\d)(?::(\d\d)(\.\d+)?)?)?(?:Z|([+-])(\d\d):?(\d\d)?)?")
 STEP = 1_000_000  # metres by which a local grid is shifted
 GREATEST = {1: 1 << 24, 10: 1 << 27}  # the greatest coordinate, by how many units a metre has
+NUMBER = re.compile(r"(-?[0-9]+)(?:[.,]([0-9]+))?")
 TRUE, FALSE = {"true", "TRUE", "True", "1", "1.0"}, {"false", "FALSE", "False", "0", "0.0"}
 
 
@@ -50,6 +51,17 @@ def moment(record):
     return 86400 * clock.days + clock.seconds + Fraction(f"0{decimals or ''}") - (-ahead if sign == "-" else ahead)
 
 
+def bare(text):
+    """A number without the zeros behind its digits: what stands before its point, and the digits behind it; None of another text."""
+    found = NUMBER.fullmatch(text)
+    return found and (found[1], (found[2] or "").rstrip("0"))
+
+
+def is_missing(text, asked):
+    """Whether a field is a word for what is missing, or the same number."""
+    return text in asked.missing or bare(text) is not None and bare(text) in map(bare, asked.missing)
+
+
 def is_used(record):
     """Whether a fix is used, by its marks."""
     if "use" in record:
@@ -60,9 +72,9 @@ def is_used(record):
 
 def why_left(record, asked):
     """The reason for which a record is left out, without a look at its place; None where there is none."""
-    if not {record["easting"], record["northing"]}.isdisjoint(asked.missing | {"NA"}):
+    if any(record[axis] == "NA" or is_missing(record[axis], asked) for axis in ("easting", "northing")):
         return "coordinates"
-    if record["animal"] in asked.missing:
+    if is_missing(record["animal"], asked):
         return "animal"
     return None if asked.mark or is_used(record) else "outlier"
 
@@ -86,7 +98,7 @@ def shift_of(metres, units):
 
 def name_of(record, asked):
     """The name of the file of a record's animal; "" where it has none."""
-    return "" if record["animal"] in asked.missing else re.sub(r'[<>:"/\\|?*,\x00-\x1f\x7f]', "_", record["animal"])
+    return "" if is_missing(record["animal"], asked) else re.sub(r'[<>:"/\\|?*,\x00-\x1f\x7f]', "_", record["animal"])
 
 
 def lines_of(name, fixes, asked):

@@ -52,7 +52,7 @@ class Table:
         self.asked = Asked(draw.choice((1, 10)), draw.random() < 0.4, frozenset({"", word} - {None}), is_local)
         self.separator = draw.choice(",,;\t")
         self.points = "." if self.separator == "," else draw.choice((".", ",", ".,"))
-        self.blanks = [*self.asked.missing, "NA"]
+        self.blanks = [*self.asked.missing, "NA"] + [f"-9999{point}{zeros}" for point in self.points for zeros in ("0", "000")] * (word == "-9999")
         self.skips_unnamed = draw.random() < 0.3
         self.animals = draw.sample(NAMES, draw.randrange(1, 7))
         self.marks = draw.choice(((), (), ("use",), tuple(draw.sample(MARKS, draw.randrange(1, 6)))))
@@ -97,7 +97,7 @@ class Table:
         if not is_sure and draw.random() < self.outliers and self.marks:
             self.be_outlier(record)
         if not is_sure and draw.random() < 0.05 and self.skips_unnamed:
-            record["animal"] = draw.choice([*self.asked.missing])
+            record["animal"] = draw.choice([blank for blank in self.blanks if blank != "NA"])
         if not is_sure and draw.random() < self.failing:
             self.fail(record)
         return record

@@ -30,7 +30,7 @@ UNLIKE = {
     "a_line_of_blanks": "pandas passes over it", "byte_0": "pandas ends the cell there", "one_title_twice": "pandas renames the second"}
 UNLIKE_WITH_TYPES = {
     "a_number_with_a_blank": DIGITS, "a_number_with_a_plus": DIGITS, "a_number_with_a_point_behind": DIGITS,
-    "a_number_with_an_exponent": DIGITS, "words_of_floats": DIGITS, "a_number_that_only_resembles_what_is_missing": DIGITS,
+    "a_number_with_an_exponent": DIGITS, "words_of_floats": DIGITS,
     "NA_as_a_name": MISSING, "words_for_what_is_missing_not_named": MISSING,
     "points_before_thousands_between_commas": DIGITS, "a_mark_in_mixed_letters": "pandas makes a truth of it"}
 

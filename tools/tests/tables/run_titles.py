@@ -1,6 +1,7 @@
 #!/usr/bin/env python3
 """run_titles.py PROGRAM: the lines of titles that homerange-split refuses, some beside options, with the line that it says. Another
-reader of the same rules in Python, which went when the program took its place, said them, but for rules that it did not have."""
+reader of the same rules in Python, which went when the program took its place, said them, but for rules that it did not have; those
+of titles that say a clock, and of such that seem to, were written by hand."""
 import subprocess
 import sys
 import tempfile
@@ -16,6 +17,7 @@ UTC = ", and without --tz times are those of UTC: name their zone, as by --tz "
 METRES = ", and coordinates are in metres: write metres, and rename the column"
 DEGREES = ", and longitude and latitude are in degrees: write degrees with decimals, and rename the column"
 NO_MARKS = " (a fix is not used where 'visible' is false, or 'manually-marked-outlier' is true)"
+EXAMPLE = "Europe/Ljubljana"
 # The options, the titles, and the line.
 REFUSED = [
     ([], "Id,ID,date,x,y", "column 1 'Id' and column 2 'ID' both fit id: rename one"),
@@ -23,6 +25,13 @@ REFUSED = [
     ([], "individual.local.identifier,timestamp,utm_easting,utm easting,utm-northing,utm-zone",
      "column 3 'utm_easting' and column 4 'utm easting' both fit utm-easting: rename one"),
     (["--animal", "tag"], "tag,date,x,y,tag", "column 1 'tag' and column 5 'tag' both fit the animal: rename one"),
+    ([], "id,date,x,y,visible,Visible", "column 5 'visible' and column 6 'Visible' both fit visible: rename one"),
+    ([], "id,date,x,y,Use,use", "column 5 'Use' and column 6 'use' both fit use: rename one"),
+    ([], "id,date,x,y,argos-lc,Argos.LC", "column 5 'argos-lc' and column 6 'Argos.LC' both fit argos-lc: rename one"),
+    ([], "id,Date,x,y,date", "column 2 'Date' and column 5 'date' both fit date: rename one"),
+    (["--max-dop", "5"], "id,date,x,y,gps-dop,GPS DOP", "column 5 'gps-dop' and column 6 'GPS DOP' both fit gps-dop: rename one"),
+    (["--max-dop", "5", "--dop", "GPS DOP"], "id,date,x,y,gps-dop,GPS DOP", "there is no record below the titles"),
+    (["--time", "date"], "id,Date,x,y,date", "there is no record below the titles"),
     (["--time", "day,clock"], "id,day,clock,x,y, clock", "column 3 'clock' and column 6 'clock' both fit the time: rename one"),
     (["--easting", "a", "--northing", "b"], "id,date,a,b,b", "column 4 'b' and column 5 'b' both fit the northing: rename one"),
     ([], "animal,second,easting,northing,Visible,VISIBLE", "column 5 'Visible' and column 6 'VISIBLE' both fit visible: rename one"),
@@ -138,6 +147,93 @@ REFUSED = [
     (["--easting", "utm-northing", "--northing", "utm-easting"], UTM,
      "column 5 'utm-zone' is read beside utm-easting and utm-northing alone: rename or remove it"),
 ]
+# Titles of times that say another clock than that of UTC, by which word, and which zone is asked for.
+CLOCKS = [
+    *((f"time ({word})", word, EXAMPLE) for word in (
+        "local localtime localdate LMT CET CEST MEZ MESZ EST EDT CST CDT MST MDT PST PDT HST AKST AKDT ADT NST NDT BRT CLT BST EET EEST MSK WAT "
+        "SAST HKT SGT JST KST AWST ACST ACDT AEST AEDT NZST NZDT").split()),
+    ("eet", "eet", EXAMPLE),
+    ("Bst_Time", "Bst", EXAMPLE),
+    ("date.msk", "msk", EXAMPLE),
+    ("AKST or AKDT", "AKST", EXAMPLE),
+    ("time UTC or SAST", "SAST", EXAMPLE),
+    ("time (Europe/Vienna)", "Europe/Vienna", "Europe/Vienna"),
+    ("timestamp Africa/Nairobi", "Africa/Nairobi", "Africa/Nairobi"),
+    ("America/Argentina/Buenos_Aires", "America/Argentina/Buenos_Aires", "America/Argentina/Buenos_Aires"),
+    ("time_America/Port-au-Prince", "America/Port-au-Prince", "America/Port-au-Prince"),
+    ("America/Port_of_Spain_time", "America/Port_of_Spain", "America/Port_of_Spain"),
+    ("Africa/Dar_es_Salaam.time", "Africa/Dar_es_Salaam", "Africa/Dar_es_Salaam"),
+    ("date-Europe/Vienna-2024", "Europe/Vienna", "Europe/Vienna"),
+    ("[US/Eastern]", "US/Eastern", "US/Eastern"),
+    ("Etc/GMT-3", "Etc/GMT-3", "Etc/GMT-3"),
+    ("time {Etc/GMT+11}", "Etc/GMT+11", "Etc/GMT+11"),
+    ("time (europe/vienna)", "europe/vienna", EXAMPLE),
+    ("local time (Europe/Vienna)", "Europe/Vienna", "Europe/Vienna"),
+    ("UTC Asia/Tokyo", "Asia/Tokyo", "Asia/Tokyo"),
+    ("time (+3)", "+3", "Etc/GMT-3"),
+    ("time +02:00", "+02:00", "Etc/GMT-2"),
+    ("time +10", "+10", "Etc/GMT-10"),
+    ("time (+2h)", "+2", "Etc/GMT-2"),
+    ("time (GMT + 2)", "GMT + 2", EXAMPLE),
+    ("time_utc_plus_2", "utc_plus_2", EXAMPLE),
+    ("UTC minus 10", "UTC minus 10", EXAMPLE),
+    ("time +5.5", "+5.5", EXAMPLE),
+    ("time (UTC+5.75)", "UTC+5.75", EXAMPLE),
+    ("time [-5]", "-5", "Etc/GMT+5"),
+    ("time -05:00", "-05:00", "Etc/GMT+5"),
+    ("time (-0300)", "-0300", "Etc/GMT+3"),
+    ("time ( +1:00 )", "+1:00", "Etc/GMT-1"),
+    ("time {+1200; NZ}", "+1200", "Etc/GMT-12"),
+    ("time (UTC)+2", "+2", "Etc/GMT-2"),
+    ("time UTC (+2)", "+2", "Etc/GMT-2"),
+    ("time (UTC+02:00)", "UTC+02:00", "Etc/GMT-2"),
+    ("GMT-0800", "GMT-0800", "Etc/GMT+8"),
+    ("CET (+01)", "+01", "Etc/GMT-1"),
+    ("time (+14)", "+14", EXAMPLE),
+    ("time +9:30", "+9:30", EXAMPLE),
+    ("local +0530", "local", EXAMPLE),
+    ("time [-03:30]", "-03:30", EXAMPLE),
+]
+# Titles of times that say the clock of UTC, and by which word.
+OF_UTC = [
+    ("time (Etc/UTC)", "Etc/UTC"), ("Etc/GMT", "Etc/GMT"), ("time etc/gmt+0", "etc/gmt+0"), ("time [Etc/Zulu]", "Etc/Zulu"), ("time (+0)", "+0"),
+    ("time +00:00", "+00:00"), ("time -00:00", "-00:00"), ("time (-0)", "-0"), ("time {+0000}", "+0000"), ("UTC (+0)", "UTC"), ("UTC+0", "UTC"),
+    ("time (Z)", "Z"), ("time UTC - 2024", "UTC"), ("utc plus", "utc"),
+]
+# Titles of times that say no clock.
+NO_CLOCKS = [
+    "x+1", "time-2", "fix-1", "date_2024-05-01", "+3", "time+02:00", "time_+3", "time -2", "time -0530", "time - 05:00", "time + 2",
+    "date 2024 -05-01", "time +02:00:00", "time (+15)", "time +2:60", "time (+123)", "time (-9999)", "time +2hours", "time (+2-3)", "time +5.3", "time (+5.)",
+    "time_z", "z", "cat", "time cat", "EAT", "Ist", "ist_zeit", "Art", "pet_time", "cot", "time west", "wet time", "Ast", "Pkt.Zeit", "best time", "time/Asia",
+    "Date (EU/US)", "date/time", "Asia/2024", "Asia", "Eurasia/Vienna",
+]
+# Titles of times that say a clock, by which word, another zone that is named, and the zone of the remedy.
+OTHER_CLOCKS = [
+    ("time (UTC+2)", "UTC+2", "Etc/GMT+2", "Etc/GMT-2"), ("time (+3)", "+3", "UTC", "Etc/GMT-3"), ("time -05:00", "-05:00", "Etc/GMT+6", "Etc/GMT+5"),
+    ("time (Europe/Vienna)", "Europe/Vienna", "America/New_York", "Europe/Vienna"), ("time (CET)", "CET", "Etc/UTC", EXAMPLE),
+    ("time (Asia/Tokyo)", "Asia/Tokyo", "UTC", "Asia/Tokyo"), ("time +5.5", "+5.5", "GMT", EXAMPLE),
+]
+# Options and titles of times that are taken, with or without them.
+TAKEN = [
+    *(([], title) for title in NO_CLOCKS),
+    *((options, title) for title, _ in OF_UTC for options in ([], ["--tz", "UTC"], ["--tz", "Etc/GMT"])),
+    *((["--tz", zone if "/" in word else "Africa/Nairobi"], title) for title, word, zone in CLOCKS if word != "europe/vienna"),
+    (["--tz", "Etc/GMT-2"], "time (UTC+2)"), (["--tz", "UTC"], "local time"), (["--tz", "Etc/GMT+11"], "time {Etc/GMT+11}"),
+]
+
+
+def of_clocks():
+    """The refusals of titles that say a clock, and the line that is said of a table without records where its titles are taken."""
+    for title, word, zone in CLOCKS:
+        yield ["--time", title], title, f"column 2 '{title}' says {word}{UTC}{zone}"
+    for title, word in OF_UTC:
+        yield (["--time", title, "--tz", "Africa/Nairobi"], title,
+               f"column 2 '{title}' says {word}, and --tz is Africa/Nairobi: leave --tz out, or rename the column")
+    for title, word, zone, own in OTHER_CLOCKS:
+        yield (["--time", title, "--tz", zone], title,
+               f"column 2 '{title}' says {word}, and --tz is {zone}: name its own zone, as by --tz {own}, or rename the column")
+    for options, title in TAKEN:
+        yield ["--time", title, *options], title, "there is no record below the titles"
 
 
 def fault(program, options, titles, line):
@@ -151,7 +247,7 @@ def fault(program, options, titles, line):
 
 def faults(program):
     """Each case with how the program does not do what it wants; None where it does."""
-    for options, titles, line in REFUSED:
+    for options, titles, line in (*REFUSED, *((options, f"id,{title},lon,lat", line) for options, title, line in of_clocks())):
         yield f"titles {' '.join([*options, titles])}", fault(program, options, titles, line)
 
 

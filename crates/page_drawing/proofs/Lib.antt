@@ -1,0 +1,2 @@
+mod PlaceFacts
+mod StepFacts

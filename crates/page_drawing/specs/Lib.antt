@@ -1,0 +1,5 @@
+pub mod Bounds
+pub mod Colours
+pub mod Laws
+pub mod Places
+pub mod Steps

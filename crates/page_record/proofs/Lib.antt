@@ -1,0 +1,3 @@
+pub mod ReadingFacts
+pub mod Tracks
+pub mod Unescaping

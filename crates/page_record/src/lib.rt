@@ -1,0 +1,22 @@
+//! The record of a folder of tracks, read back: of which export the tracks were made, how, and by what, and how many records of it
+//! each animal has.
+#![tactic(auto)]
+
+mod counts;
+mod fault;
+mod fields;
+mod kind;
+mod put;
+mod reading;
+mod record;
+mod system;
+mod unescaped;
+mod zone;
+
+pub use counts::{left_of, records_of, track_of};
+pub use fault::{RecordFault, Wrong, sentence};
+pub use kind::Kind;
+pub use reading::read_record;
+pub use record::{Given, LeftOut, Made, Record};
+pub use system::system_of;
+pub use zone::Zone;

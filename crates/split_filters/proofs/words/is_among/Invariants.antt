@@ -1,6 +1,0 @@
-use Rattle.std.proofs.Common.{◌≡◌, false, take}
-use Rattle.split_filters.specs.Words.{is_among}
-use Rattle.split_filters.proofs.words.is_among.Given as goal
-
-abbrev pub invariant-loop-own : goal.invariant-loop-own
-invariant-loop-own l = is_among (take l.own-index l.words) l.word ≡ false
