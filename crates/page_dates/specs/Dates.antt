@@ -1,24 +1,25 @@
 -- Dates and periods as the page writes them.
-use Rattle.std.specs.Prelude.{ℕ, ◌+◌, ◌/◌, ◌==◌, Bool, ◌&&◌, if◌then◌else◌, ℤ, pos, negsuc, List, [], ◌++◌, codes, decimal, Option, Some, None}
+use Rattle.std.specs.Prelude.{ℕ, ◌+◌, ◌/◌, ◌==◌, Bool, ◌&&◌, if◌then◌else◌, ℤ, pos, negsuc, List, ◌++◌, codes, decimal, Option, Some, None}
 use Rattle.jiff_tz.specs.declared.tzif.Tzif.{Tzif}
 use Rattle.split_clock.specs.Clock.{local_second}
 use Rattle.page_dates.specs.Calendar.{date_of_day}
 use Rattle.page_dates.specs.declared.dates.TheConstants.{DAY}
 
--- the name of a month
+-- the name of a month, by its number from 1 on
 abbrev pub month_name : ℕ → List ℕ
-month_name 1 = codes "Jan"
-month_name 2 = codes "Feb"
-month_name 3 = codes "Mar"
-month_name 4 = codes "Apr"
-month_name 5 = codes "May"
-month_name 6 = codes "Jun"
-month_name 7 = codes "Jul"
-month_name 8 = codes "Aug"
-month_name 9 = codes "Sep"
-month_name 10 = codes "Oct"
-month_name 11 = codes "Nov"
-month_name other = codes "Dec"
+month_name month =
+    if month == 1 then codes "Jan"
+    else if month == 2 then codes "Feb"
+    else if month == 3 then codes "Mar"
+    else if month == 4 then codes "Apr"
+    else if month == 5 then codes "May"
+    else if month == 6 then codes "Jun"
+    else if month == 7 then codes "Jul"
+    else if month == 8 then codes "Aug"
+    else if month == 9 then codes "Sep"
+    else if month == 10 then codes "Oct"
+    else if month == 11 then codes "Nov"
+    else codes "Dec"
 
 -- a day as 20 Sep 2024
 abbrev pub day_text : ℕ × ℕ × ℕ → List ℕ

@@ -1,5 +1,5 @@
 -- Whether the seconds of a report are dates.
-use Rattle.std.specs.Prelude.{ℕ, Bool, ◌&&◌, nat_le, nat_lt}
+use Rattle.std.specs.Prelude.{Bool, ◌&&◌, nat_le, nat_lt}
 use Rattle.std.specs.List.{list_all}
 use Rattle.range_estimator.specs.declared.row.Row.{Row}
 use Rattle.page_report.specs.Reading.{Read, Said}

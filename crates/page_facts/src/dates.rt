@@ -1,6 +1,7 @@
 // Whether the seconds of a report are dates.
 
 ghost use Rattle.std.specs.Prelude.{◌≡◌};
+ghost use Rattle.std.specs.List.{list_all};
 ghost use Rattle.page_facts.specs.Dates.{are_dates, has_dates, is_date};
 ghost use Rattle.page_report.specs.Reading.{read, said};
 
@@ -27,11 +28,18 @@ fn has_dates(animal: &ReadAnimal) -> bool
     animal.rows.iter().all(|row| is_date(row))
 }
 
+// Whether all seconds of several animals are dates.
+fn have_dates(animals: &[ReadAnimal]) -> bool
+    ensures { result ≡ list_all (λ animal. has_dates (said animal)) animals.now }
+{
+    animals.iter().all(|animal| has_dates(animal))
+}
+
 /// Whether all seconds of a report are dates, in seconds since 1970 in UTC.
 pub fn are_dates(report: &Report) -> bool
     ensures { result ≡ are_dates (read report.now) }
 {
-    report.animals.iter().all(|animal| has_dates(animal))
+    have_dates(&report.animals)
 }
 
 /// The bounds of dates, as numbers: definitions take them from the code.

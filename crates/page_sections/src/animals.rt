@@ -1,13 +1,5 @@
 // The table of animals: what became of their fixes, when they were, their areas and how these grew.
 
-use page_drawing::push_colour;
-use page_facts::{Facts, at_level};
-use page_report::ReadAnimal;
-use page_tables::Told;
-use page_text::{push_attribute, push_days, push_escaped, push_named};
-use split_tracks::Reason;
-use std::alloc::AllocError;
-
 use crate::cells::{
     push_area_cell, push_count, push_count_cell, push_date_cell, push_end, push_interval_cell,
     push_share_cell, push_start,
@@ -15,6 +7,13 @@ use crate::cells::{
 use crate::headings::{ANIMAL, push_headings, push_levels, push_percents};
 use crate::reasons::field;
 use crate::shown::{Shown, levels_of};
+use page_drawing::push_colour;
+use page_facts::{Facts, at_level};
+use page_report::ReadAnimal;
+use page_tables::Told;
+use page_text::{push_attribute, push_days, push_escaped, push_named};
+use split_tracks::Reason;
+use std::alloc::AllocError;
 
 // How many columns of reasons, and of levels counted twice, one table has room for.
 const WIDEST: usize = 10;
@@ -166,7 +165,8 @@ fn push_areas_table(text: &mut Vec<u8>, shown: &Shown) -> Result<(), AllocError>
 ///
 /// Memory ran out.
 pub fn push_animals_table(text: &mut Vec<u8>, shown: &Shown) -> Result<(), AllocError> {
-    let has_areas = 2 * levels_of(shown.report).len() as u128 + shown.reasons.len() as u128 <= WIDEST as u128;
+    let has_areas = 2 * levels_of(shown.report).len() as u128 + shown.reasons.len() as u128
+        <= WIDEST as u128;
     text.extend_from_slice(b"<table id=\"animals\" data-zone=\"")?;
     push_escaped(text, shown.zone)?;
     text.extend_from_slice(b"\">\n")?;

@@ -1,11 +1,10 @@
 // Cells of tables, which name what they hold.
 
+use crate::shown::{Shown, area};
 use page_dates::push_date;
 use page_text::{Places, push_fixed, push_hectares, push_interval, push_share_of_area};
 use range_plane::Scale;
 use std::alloc::AllocError;
-
-use crate::shown::{Shown, area};
 
 // What stands for a number that there is not: a dash.
 pub(crate) const NOTHING: &[u8] = b"\xE2\x80\x93";

@@ -1,13 +1,12 @@
 // The headings of the table of animals.
 
+use crate::cells::push_count;
+use crate::reasons::heading;
+use crate::shown::{Shown, levels_of, source_words};
 use page_text::{Places, push_fixed};
 use range_stats::PercentRow;
 use split_tracks::Reason;
 use std::alloc::AllocError;
-
-use crate::cells::push_count;
-use crate::reasons::heading;
-use crate::shown::{Shown, levels_of, source_words};
 
 // The headings of the number and the name of an animal.
 pub(crate) const ANIMAL: &[u8] =
@@ -38,10 +37,7 @@ pub(crate) fn push_levels(text: &mut Vec<u8>, columns: usize) -> Result<(), Allo
 }
 
 // Appends the heading of each level.
-pub(crate) fn push_percents(
-    text: &mut Vec<u8>,
-    levels: &[PercentRow],
-) -> Result<(), AllocError> {
+pub(crate) fn push_percents(text: &mut Vec<u8>, levels: &[PercentRow]) -> Result<(), AllocError> {
     for own in levels {
         text.extend_from_slice(b"<th>")?;
         push_fixed(text, u128::from(own.level), 1, Places::Whole)?;
@@ -69,7 +65,9 @@ fn push_above(text: &mut Vec<u8>, shown: &Shown, levels: usize) -> Result<(), Al
     text.extend_from_slice(b"</span></th>")?;
     push_over(text, shown.reasons.len(), b"Left out")?;
     push_turned(text, b"2")?;
-    text.extend_from_slice(b"used</span></th><th rowspan=\"2\">First</th><th rowspan=\"2\">Last</th>")?;
+    text.extend_from_slice(
+        b"used</span></th><th rowspan=\"2\">First</th><th rowspan=\"2\">Last</th>",
+    )?;
     text.extend_from_slice(b"<th rowspan=\"2\">Days</th><th colspan=\"2\">Interval</th>")?;
     push_levels(text, levels)?;
     text.extend_from_slice(b"<th>Area curve</th><th colspan=\"2\">95 % since</th>")

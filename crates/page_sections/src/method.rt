@@ -1,15 +1,14 @@
 // The method as it may stand in a report, what was left out, and what was said when fixes were read.
 
+use crate::cells::push_count;
+use crate::reasons::phrase;
+use crate::shown::{Shown, Source, levels_of, source_words};
 use page_record::{Given, Record};
 use page_text::{between, push_escaped, push_fixes};
 use range_plane::Scale;
 use range_stats::PercentRow;
 use split_tracks::Reason;
 use std::alloc::{AllocError, Global};
-
-use crate::cells::push_count;
-use crate::reasons::phrase;
-use crate::shown::{Shown, Source, levels_of, source_words};
 
 // How many lines that were said the page quotes.
 const MOST_SAID: usize = 12;
@@ -123,11 +122,7 @@ fn push_reasons(text: &mut Vec<u8>, totals: &Totals) -> Result<(), AllocError> {
 }
 
 // Appends that no fix was left out.
-fn push_nothing_left(
-    text: &mut Vec<u8>,
-    source: Source,
-    records: u64,
-) -> Result<(), AllocError> {
+fn push_nothing_left(text: &mut Vec<u8>, source: Source, records: u64) -> Result<(), AllocError> {
     text.extend_from_slice(b"No fix of the ")?;
     text.extend_from_slice(source_words(source))?;
     text.extend_from_slice(b" was left out (")?;
@@ -186,7 +181,11 @@ fn push_more(text: &mut Vec<u8>, more: usize) -> Result<(), AllocError> {
     }
     text.extend_from_slice(b"; and ")?;
     push_count(text, more as u64)?;
-    let words: &[u8] = if more == 1 { b" line more" } else { b" lines more" };
+    let words: &[u8] = if more == 1 {
+        b" line more"
+    } else {
+        b" lines more"
+    };
     text.extend_from_slice(words)
 }
 
@@ -245,7 +244,11 @@ pub fn push_options(text: &mut Vec<u8>, record: &Record) -> Result<(), AllocErro
     if record.options.is_empty() {
         return Ok(());
     }
-    let what: &[u8] = if record.export.is_some() { b"split" } else { b"call" };
+    let what: &[u8] = if record.export.is_some() {
+        b"split"
+    } else {
+        b"call"
+    };
     text.extend_from_slice(b" Options of the ")?;
     text.extend_from_slice(what)?;
     for (place, option) in record.options.iter().enumerate() {

@@ -1,10 +1,9 @@
 // A sentence on animals that have no range.
 
-use page_text::{between, push_named};
-use std::alloc::AllocError;
-
 use crate::cells::push_count;
 use crate::shown::{Source, source_words};
+use page_text::{between, push_named};
+use std::alloc::AllocError;
 
 // How many animals without a range have their names in the sentence.
 const MOST_NAMED: usize = 20;

@@ -1,15 +1,15 @@
 // Overlaps: how many fixes of animals lie in the polygons of all fixes of others.
 
+use crate::cells::{NOTHING, push_count};
+use crate::pairs::{Meeting, count, meetings_of, pairs_of};
 use page_drawing::push_colour;
 use page_report::Report;
 use page_text::{push_attribute, push_count_with_share, push_fixes, push_named};
 use std::alloc::{AllocError, Global};
 
-use crate::cells::{NOTHING, push_count};
-use crate::pairs::{Meeting, count, meetings_of, pairs_of};
-
 // Of how many animals overlaps are a square table, and how many pairs the table of more has.
 const MOST_ANIMALS: usize = 12;
+
 const MOST_PAIRS: usize = 60;
 
 // The name of the animal at a place.
@@ -60,11 +60,7 @@ fn push_animal(text: &mut Vec<u8>, report: &Report, place: usize) -> Result<(), 
 }
 
 // Appends the cells of an animal in the square table.
-fn push_square_cells(
-    text: &mut Vec<u8>,
-    report: &Report,
-    animal: usize,
-) -> Result<(), AllocError> {
+fn push_square_cells(text: &mut Vec<u8>, report: &Report, animal: usize) -> Result<(), AllocError> {
     for range in 0..report.animals.len() {
         if range == animal {
             text.extend_from_slice(b"<td>")?;
@@ -103,8 +99,12 @@ fn push_numbers(text: &mut Vec<u8>, report: &Report) -> Result<(), AllocError> {
 
 // Appends the square table: whose fixes in the rows, and in whose ranges in the columns.
 fn push_square(text: &mut Vec<u8>, report: &Report) -> Result<(), AllocError> {
-    text.extend_from_slice(b"<p class=\"note\">Rows: whose fixes. Columns: in the range of the animal with this number.</p>\n")?;
-    text.extend_from_slice(b"<table id=\"overlaps\"><thead><tr><th></th><th class=\"name\">Fixes of</th>")?;
+    text.extend_from_slice(
+        b"<p class=\"note\">Rows: whose fixes. Columns: in the range of the animal with this number.</p>\n",
+    )?;
+    text.extend_from_slice(
+        b"<table id=\"overlaps\"><thead><tr><th></th><th class=\"name\">Fixes of</th>",
+    )?;
     push_numbers(text, report)?;
     text.extend_from_slice(b"</tr></thead>\n<tbody>\n")?;
     push_square_lines(text, report)?;
@@ -132,7 +132,9 @@ fn push_pairs(text: &mut Vec<u8>, report: &Report, pairs: &[Meeting]) -> Result<
         push_count(text, MOST_PAIRS as u64)?;
         text.extend_from_slice(b" pairs with the greatest shares are here.")?;
     }
-    text.extend_from_slice(b"</p>\n<table id=\"overlaps\"><thead><tr><th></th><th class=\"name\">A</th><th></th>")?;
+    text.extend_from_slice(
+        b"</p>\n<table id=\"overlaps\"><thead><tr><th></th><th class=\"name\">A</th><th></th>",
+    )?;
     text.extend_from_slice(b"<th class=\"name\">B</th><th>fixes of A in the range of B</th>")?;
     text.extend_from_slice(b"<th>fixes of B in the range of A</th></tr></thead>\n<tbody>\n")?;
     push_lines(text, report, &pairs[..pairs.len().min(MOST_PAIRS)])?;
@@ -203,7 +205,9 @@ fn push_some(
     push_count(text, meetings)?;
     text.extend_from_slice(b" of ")?;
     push_count(text, pairs_of(report.animals.len()))?;
-    text.extend_from_slice(b" (a fix of one lies in the 100 % polygon of the other, its edges included). Most of all ")?;
+    text.extend_from_slice(
+        b" (a fix of one lies in the 100 % polygon of the other, its edges included). Most of all ",
+    )?;
     push_most(text, report, first)
 }
 

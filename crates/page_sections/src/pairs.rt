@@ -48,11 +48,7 @@ fn meeting(report: &Report, one: usize, other: usize) -> Option<Meeting> {
 }
 
 // Adds the pairs of an animal and those behind it.
-fn add_meetings(
-    found: &mut Vec<Meeting>,
-    report: &Report,
-    one: usize,
-) -> Result<(), AllocError> {
+fn add_meetings(found: &mut Vec<Meeting>, report: &Report, one: usize) -> Result<(), AllocError> {
     for other in one + 1..report.animals.len() {
         if let Some(own) = meeting(report, one, other) {
             found.push(own)?;

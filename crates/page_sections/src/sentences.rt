@@ -1,5 +1,7 @@
 // The sentences of a page: one for each animal, of many one for all.
 
+use crate::cells::push_count;
+use crate::shown::{Shown, area, levels_of};
 use page_dates::push_period;
 use page_facts::at_level;
 use page_report::{ReadAnimal, Report};
@@ -7,11 +9,9 @@ use page_text::{push_fixes, push_named, push_with_sign};
 use range_stats::PercentRow;
 use std::alloc::{AllocError, Global};
 
-use crate::cells::push_count;
-use crate::shown::{Shown, area, levels_of};
-
 // Of how many animals each has a sentence, and of how many these stand in one column.
 const MOST_SENTENCES: usize = 40;
+
 const ONE_COLUMN: usize = 6;
 
 // The level that sentences name: 95, else the highest.
@@ -125,7 +125,11 @@ fn push_areas(
     areas: &[(u128, usize)],
 ) -> Result<(), AllocError> {
     let middle = areas.len().saturating_sub(1) / 2;
-    if let (Some(least), Some(most), Some(half)) = (areas.first(), areas.last(), areas.get(middle)) {
+    if let (Some(least), Some(most), Some(half)) = (
+        areas.first(),
+        areas.last(),
+        areas.get(middle),
+    ) {
         text.extend_from_slice(b"from ")?;
         push_of(text, shown, *least)?;
         text.extend_from_slice(b" to ")?;

@@ -29,7 +29,11 @@ fn push_export(text: &mut Vec<u8>, export: Option<(&[u8], &[u8])>) -> Result<(),
             push_named(text, name)?;
             push_sum(text, b"export_sha256", sum)
         }
-        None => push_sum(text, b"export_sha256", b"none: the tracks were made of a data frame"),
+        None => push_sum(
+            text,
+            b"export_sha256",
+            b"none: the tracks were made of a data frame",
+        ),
     }
 }
 
@@ -53,8 +57,14 @@ pub fn push_sums(text: &mut Vec<u8>, sums: &Sums) -> Result<(), AllocError> {
 ///
 /// Memory ran out.
 pub fn push_verify(text: &mut Vec<u8>, has_export: bool) -> Result<(), AllocError> {
-    let words: &[u8] = if has_export { b"FOLDER EXPORT" } else { b"FOLDER" };
-    text.extend_from_slice(b"Sums are SHA-256. This checks the folder that is handed in, and says what held and what was not looked at, in ")?;
+    let words: &[u8] = if has_export {
+        b"FOLDER EXPORT"
+    } else {
+        b"FOLDER"
+    };
+    text.extend_from_slice(
+        b"Sums are SHA-256. This checks the folder that is handed in, and says what held and what was not looked at, in ",
+    )?;
     text.extend_from_slice(b"a clone of homerange: <code>python3 tools/verify.py ")?;
     text.extend_from_slice(words)?;
     text.extend_from_slice(b"</code>")

@@ -1,5 +1,5 @@
 -- What holds of the numbers of tables.
-use Rattle.std.specs.Prelude.{◌≡◌, ℕ, ◌+◌, ◌*◌, ◌/◌, ◌%◌, ◌<◌, ◌≤◌, ◌^◌}
+use Rattle.std.specs.Prelude.{◌≡◌, ℕ, ◌+◌, ◌*◌, ◌/◌, ◌%◌, ◌<◌, ◌^◌}
 use Rattle.range_plane.specs.declared.scale.Scale.{Scale}
 use Rattle.page_text.specs.Figures.{hectare}
 use Rattle.page_tables.specs.Numbers.{places_of}

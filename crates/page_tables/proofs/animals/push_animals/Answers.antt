@@ -1,4 +1,5 @@
 use Rattle.std.proofs.Common.{◌++◌, ◌∙◌, ap, append_assoc, map}
+use Rattle.page_facts.specs.Dates.{are_dates}
 use Rattle.page_report.specs.Reading.{read}
 use Rattle.page_tables.specs.Animals.{animal_titles, told_lines}
 use Rattle.page_tables.specs.Lines.{line, table}
@@ -10,9 +11,9 @@ pub loop-animal-preserved : goal.loop-animal-preserved
 loop-animal-preserved c =
     let told = c.args.told.now in
     let own = c.index-told-animal.result in
-    rw c.in_ok-push_line.ensures
+    rw (c.in_ok-push_line.ensures, c.are_dates-dated.ensures)
     (one_more c.loop-animal.text.items _ _ _ _
-    (next_told (read c.args.report.now) c.dated told c.loop-animal.animal own c.loop-animal-test.true c.index-told-animal.is) c.loop-animal.invariant)
+    (next_told (read c.args.report.now) (are_dates (read c.args.report.now)) told c.loop-animal.animal own c.loop-animal-test.true c.index-told-animal.is) c.loop-animal.invariant)
 
 pub returns : goal.returns
 returns c =
