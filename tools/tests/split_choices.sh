@@ -98,6 +98,7 @@ unit,dm
 zone,33N
 option,na,\\\\N
 option,tz,UTC
+said,--na: no field of the columns that are read is '\\N'
 said,1 records have no coordinates: left out
 said,UTM coordinates are those of the export; zone: 33N 1
 said,columns: individual-local-identifier, timestamp, utm-easting, utm-northing; 1 animals, box 0.000 by 0.000 km near 15.0 E 0.0 N, from 2024-05-01 to 2024-05-01

@@ -1,6 +1,6 @@
 // Numbers of pixels.
 
-ghost use Rattle.std.specs.Prelude.{◌<◌, ◌≤◌, ◌^◌};
+ghost use Rattle.std.specs.Prelude.{◌≡◌, ◌<◌, ◌≤◌, ◌^◌, pos};
 ghost use Rattle.page_drawing.specs.Bounds.{IsWithin};
 
 /// A number of pixels, exactly: a quotient of whole numbers up to 2^110.
@@ -15,7 +15,10 @@ pub struct Pixels {
 
 impl Pixels {
     /// A whole number of pixels.
-    pub fn new(count: u32) -> Self {
+    pub fn new(count: u32) -> Self
+        ensures part { result.part ≡ pos count }
+        ensures whole { result.whole ≡ 1 }
+    {
         Pixels {
             part: i128::from(count),
             whole: 1,

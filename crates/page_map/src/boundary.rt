@@ -1,7 +1,7 @@
 // The rings of a boundary.
 
 use crate::frame::Frame;
-use crate::ground::Ground;
+use crate::land::Ground;
 use crate::place::Place;
 use page_drawing::push_place;
 use std::alloc::AllocError;
@@ -27,8 +27,8 @@ fn push_ring(text: &mut Vec<u8>, frame: &Frame, ring: &[Ground]) -> Result<(), A
     let mut last = frame.place_of(*first);
     text.extend_from_slice(b"M")?;
     push_corner(text, frame, last)?;
-    for ground in others {
-        let at = frame.place_of(*ground);
+    for point in others {
+        let at = frame.place_of(*point);
         if is_far(frame, at, last) {
             text.extend_from_slice(b"L")?;
             push_corner(text, frame, at)?;

@@ -5,7 +5,7 @@ ghost use Rattle.page_drawing.specs.Bounds.{IsWithin};
 
 use crate::boundary::push_corner;
 use crate::frame::Frame;
-use crate::ground::{Plane, ground_of};
+use crate::land::{Plane, ground_of};
 use crate::place::Place;
 use crate::scene::Scene;
 use crate::times::{lengths, parts};
@@ -103,66 +103,69 @@ fn keep_first(
     Ok(())
 }
 
-// Keeps the fixes of an animal that are the first in their cells; whether that are at most so many with those before.
+// By which cells fixes of a frame are thinned, and how many are kept at most.
+#[derive(Clone, Copy)]
+struct Sieve<'a> {
+    frame: &'a Frame,
+    plane: Plane,
+    cell: Cell,
+    most: usize,
+}
+
+// Keeps the fixes of an animal that are the first in their cells; whether that are not too many with those before.
 fn thin_one(
     dots: &mut Vec<Dot>,
     last: &mut Vec<usize>,
-    frame: &Frame,
-    plane: Plane,
+    sieve: Sieve,
     fixes: &[Point],
     member: usize,
-    cell: Cell,
-    most: usize,
 ) -> Result<bool, AllocError> {
     for fix in fixes {
-        let at = frame.place_of(ground_of(plane, *fix));
-        keep_first(dots, last, Dot { member, at }, cell)?;
-        if dots.len() > most {
+        let at = sieve.frame.place_of(ground_of(sieve.plane, *fix));
+        keep_first(dots, last, Dot { member, at }, sieve.cell)?;
+        if dots.len() > sieve.most {
             return Ok(false);
         }
     }
     Ok(true)
 }
 
-// The fixes of animals that are the first in their cells; none where they are more than so many.
-fn thinned(
-    frame: &Frame,
-    scene: &Scene,
-    members: &[usize],
-    cell: Cell,
-    most: usize,
-) -> Result<Option<Vec<Dot>>, AllocError> {
+// The fixes of animals that are the first in their cells; none where they are too many.
+fn thinned(scene: &Scene, members: &[usize], sieve: Sieve) -> Result<Option<Vec<Dot>>, AllocError> {
     let mut dots = Vec::new(scene.alloc);
     let mut last = vec![in scene.alloc; usize::MAX; CELLS]?;
     for member in members {
-        let Some(shape) = scene.shapes.get(*member) else {
-            continue;
-        };
-        if !thin_one(
-            &mut dots,
-            &mut last,
-            frame,
-            scene.plane,
-            &shape.fixes,
-            *member,
-            cell,
-            most,
-        )? {
+        if let Some(shape) = scene.shapes.get(*member)
+            && !thin_one(&mut dots, &mut last, sieve, &shape.fixes, *member)?
+        {
             return Ok(None);
         }
     }
     Ok(Some(dots))
 }
 
+// The sieve of a power of 3/2.
+fn sieve_of<'a>(frame: &'a Frame, plane: Plane, power: u32, most: usize) -> Sieve<'a>
+    requires { power ≤ 17 }
+{
+    Sieve {
+        frame,
+        plane,
+        cell: cell_of(frame, power),
+        most,
+    }
+}
+
 // The fixes that are drawn, by the least cells for which they are few.
 fn dots_of(frame: &Frame, scene: &Scene, members: &[usize]) -> Result<Vec<Dot>, AllocError> {
     for power in 1..MOST_POWER {
-        if let Some(dots) = thinned(frame, scene, members, cell_of(frame, power), FEW_DOTS)? {
+        let sieve = sieve_of(frame, scene.plane, power, FEW_DOTS);
+        if let Some(dots) = thinned(scene, members, sieve)? {
             return Ok(dots);
         }
     }
-    let greatest = cell_of(frame, MOST_POWER);
-    match thinned(frame, scene, members, greatest, usize::MAX)? {
+    let greatest = sieve_of(frame, scene.plane, MOST_POWER, usize::MAX);
+    match thinned(scene, members, greatest)? {
         Some(dots) => Ok(dots),
         None => Ok(Vec::new(scene.alloc)),
     }

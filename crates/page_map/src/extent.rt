@@ -3,7 +3,7 @@
 ghost use Rattle.std.specs.Prelude.{◌≤◌, ◌^◌};
 ghost use Rattle.page_drawing.specs.Bounds.{IsWithin};
 
-use crate::ground::Ground;
+use crate::land::Ground;
 
 // The box from a southwestern corner to a northeastern one.
 #[derive(Clone, Copy)]

@@ -4,7 +4,7 @@ ghost use Rattle.std.specs.Prelude.{◌<◌, ◌≤◌, ◌^◌};
 ghost use Rattle.page_drawing.specs.Bounds.{IsWithin};
 
 use crate::extent::Extent;
-use crate::ground::Ground;
+use crate::land::Ground;
 use crate::place::Place;
 use crate::times::{lengths, times};
 use page_drawing::{Pixels, Spot};

@@ -4,7 +4,7 @@ ghost use Rattle.std.specs.Prelude.{◌<◌, ◌≤◌, ◌^◌, IfSome};
 ghost use Rattle.page_drawing.specs.Bounds.{IsWithin};
 
 use crate::frame::Frame;
-use crate::ground::GROUND_LIMIT;
+use crate::land::GROUND_LIMIT;
 use crate::times::times;
 use page_drawing::{Step, push_line, push_place, push_text, push_value, size_of, step_of};
 use std::alloc::AllocError;

@@ -10,7 +10,7 @@ mod extent;
 mod foot;
 mod frame;
 mod grid;
-mod ground;
+mod land;
 mod maps;
 mod numbers;
 mod outlines;
@@ -18,6 +18,6 @@ mod place;
 mod scene;
 mod times;
 
-pub use ground::{GROUND_LIMIT, Ground, Plane};
+pub use land::{GROUND_LIMIT, Ground, Plane};
 pub use maps::{Maps, draw_maps};
 pub use scene::Shape;

@@ -6,7 +6,7 @@ use crate::clusters::{Group, clusters};
 use crate::drawing::push_map;
 use crate::extent::Extent;
 use crate::frame::{Frame, Size, frame_over};
-use crate::ground::{Ground, Plane};
+use crate::land::{Ground, Plane};
 use crate::scene::{Scene, Shape, extent_of_ring, extents_of, least};
 use page_drawing::push_number;
 use std::alloc::{AllocError, Global};

@@ -2,7 +2,7 @@
 
 use crate::boundary::push_corner;
 use crate::frame::Frame;
-use crate::ground::{Plane, ground_of};
+use crate::land::{Plane, ground_of};
 use crate::scene::{Scene, Shape};
 use page_drawing::{push_colour, push_number};
 use range_plane::Point;

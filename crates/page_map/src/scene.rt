@@ -3,7 +3,7 @@
 ghost use Rattle.std.specs.Prelude.{◌<◌, ◌≤◌, ◌^◌};
 
 use crate::extent::{Extent, joined, widened};
-use crate::ground::{Ground, Plane, ground_of};
+use crate::land::{Ground, Plane, ground_of};
 use range_plane::{Point, Scale};
 use std::alloc::{AllocError, Global};
 
@@ -16,8 +16,7 @@ pub struct Shape {
     pub fixes: Vec<Point>,
 }
 
-// What all maps share: the shapes, the box of each, the rings of a boundary and the name of the reference system. No frame is
-// narrower than so many millimetres.
+// What all maps share: the shapes, the box of each, the rings of a boundary and the name of the reference system.
 #[derive(Clone, Copy)]
 pub(crate) struct Scene<'a> {
     pub alloc: Global,
@@ -28,7 +27,7 @@ pub(crate) struct Scene<'a> {
     pub system: &'a [u8],
 }
 
-// How many millimetres a frame is wide at least, whose fixes may all lie in one place.
+// How many millimetres wide and high the box of a frame is at least, since all fixes may lie in one place.
 pub(crate) fn least(unit: Scale) -> u64
     ensures some { 0 < result }
     ensures most { result ≤ 2 ^ 43 }

@@ -1,5 +1,6 @@
 """The tables that ranges.py writes, each computed anew, as bytes: numbers are as Python writes them, halves are rounded to
-even digits, times are those of UTC, nothing is written where there is none, and no text is a formula."""
+even digits, times are those of UTC or, where a second of a fix is no date, seconds, nothing is written where there is none, and no
+text is a formula."""
 
 from __future__ import annotations
 
@@ -13,14 +14,19 @@ from homerange_verifier.lines import Counts
 from .facts import HECTARE, Animal, reasons_of
 
 Rows = Iterable[Sequence[object]]
-LAST_SECOND = (2 ** 63 - 1) // 10 ** 9  # pandas writes no time behind it, which is in 2262
+DATES = range(10 ** 8, (2 ** 63 - 1) // 10 ** 9)  # seconds that are dates: from 1973 to where pandas ends, in 2262
 
 
-def moment(second: int | None) -> str:
-    """A time of UTC."""
-    if second is None or second > LAST_SECOND:
+def are_dates(animals: Sequence[Animal]) -> bool:
+    """Whether the seconds of all fixes are dates."""
+    return all(second in DATES for animal in animals for second in animal.seconds)
+
+
+def moment(second: int | None, dated: bool) -> str | int:
+    """A time of UTC, or a second."""
+    if second is None:
         return ""
-    return (datetime(1970, 1, 1) + timedelta(seconds=second)).strftime("%Y-%m-%dT%H:%M:%SZ")
+    return (datetime(1970, 1, 1) + timedelta(seconds=second)).strftime("%Y-%m-%dT%H:%M:%SZ") if dated else second
 
 
 def rounded(part: int | None, whole: int) -> float | str:
@@ -31,26 +37,27 @@ def rounded(part: int | None, whole: int) -> float | str:
 def summary(animals: Sequence[Animal], levels: Sequence[int], unit: str) -> Rows:
     """What each level of each animal comes to."""
     yield "animal", "first", "last", "fixes", "level", "kept", "corners", "hectares"
+    dated = are_dates(animals)
     for animal in animals:
         for level in levels:
             kept, hull = animal.percents[level]
-            yield (animal.name, moment(animal.first), moment(animal.last), animal.used, level, kept, len(hull),
+            yield (animal.name, moment(animal.first, dated), moment(animal.last, dated), animal.used, level, kept, len(hull),
                    hull.area2 / HECTARE[unit])
 
 
 def overview(animals: Sequence[Animal], levels: Sequence[int], unit: str) -> Rows:
     """A row for each animal."""
-    reasons = reasons_of(animals)
+    reasons, dated = reasons_of(animals), are_dates(animals)
     yield ("animal", "records", *(f"left_{reason.replace(' ', '_')}" for reason in reasons), "used", "first", "last", "days",
            "median_hours", "longest_hours", *(f"hectares_{level}" for level in levels), "within_95_fix", "within_95_time",
            "last_tenth", "last_quarter")
     for animal in animals:
         within = animal.within
         yield (animal.name, animal.records, *(animal.left.get(reason, 0) for reason in reasons), animal.used,
-               moment(animal.first), moment(animal.last), rounded(animal.last - animal.first, 86_400),
+               moment(animal.first, dated), moment(animal.last, dated), rounded(animal.last - animal.first, 86_400),
                rounded(animal.median2, 7200), rounded(animal.intervals[-1] if animal.intervals else None, 3600),
                *(animal.percents[level].hull.area2 / HECTARE[unit] for level in levels),
-               within or "", moment(within and animal.seconds[within - 1]),
+               within or "", moment(within and animal.seconds[within - 1], dated),
                rounded(animal.tenth, animal.area2), rounded(animal.quarter, animal.area2))
 
 
