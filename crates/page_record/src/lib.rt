@@ -13,7 +13,9 @@ mod system;
 mod unescaped;
 mod zone;
 
-pub use counts::{left_of, records_of, track_of};
+pub use counts::{
+    Counts, NO_COUNTS, counts_at, left_of_all, place_in, records_of_all, tally, track_of,
+};
 pub use fault::{RecordFault, Wrong, sentence};
 pub use kind::Kind;
 pub use reading::read_record;

@@ -1,8 +1,10 @@
 // Tests of records that are read. Texts and what they say come from `record.py` of the package for Python: `record_text`,
 // `read_record`, `left_out` and `of_source`.
 
+use indexmap::IndexMap;
 use page_record::{
-    Given, Made, Record, RecordFault, Zone, left_of, read_record, records_of, system_of, track_of,
+    Counts, Given, Made, NO_COUNTS, Record, RecordFault, Zone, counts_at, left_of_all, place_in,
+    read_record, records_of_all, system_of, tally, track_of,
 };
 use range_plane::Scale;
 use split_tracks::Reason;
@@ -172,32 +174,44 @@ fn tracks_are_found_by_their_animals(rt: HostRuntime) {
     assert!(rt; track_of(&own, b"old").is_none(), "and no other");
 }
 
+// How many fixes of an animal were left out for a reason.
+fn left_of(table: &IndexMap<Vec<u8>, Counts>, animal: &[u8], reason: Reason) -> u128 {
+    counts_at(table, animal).left[place_in(reason)]
+}
+
 #[test]
 fn records_that_a_track_does_not_use_are_outliers(rt: HostRuntime) {
     let Ok(own) = read(rt.alloc(), FULL) else {
         assert!(rt; false, "it is read");
         return;
     };
-    let vixen = Some(b"vixen".as_slice());
-    let boar = Some(b"old boar".as_slice());
+    let Ok(table) = tally(rt.alloc(), &own) else {
+        assert!(rt; false, "it is counted");
+        return;
+    };
     assert!(rt;
-        left_of(&own, boar, Reason::Outlier) == 6,
+        left_of(&table, b"old boar", Reason::Outlier) == 6,
         "two of them are marked"
     );
-    assert!(rt; left_of(&own, vixen, Reason::Outlier) == 1, "one is");
+    assert!(rt; left_of(&table, b"vixen", Reason::Outlier) == 1, "one is");
     assert!(rt;
-        left_of(&own, vixen, Reason::NoDop) == 3,
+        left_of(&table, b"vixen", Reason::NoDop) == 3,
         "others are left out"
     );
     assert!(rt;
-        left_of(&own, vixen, Reason::Animal) == 0,
-        "for their reasons alone"
+        left_of(&table, b"vixen", Reason::Every) == 1,
+        "for their reasons"
     );
     assert!(rt;
-        left_of(&own, Some(b""), Reason::Animal) == 2,
+        left_of(&table, b"vixen", Reason::Animal) == 0,
+        "and no other"
+    );
+    assert!(rt;
+        left_of(&table, b"", Reason::Animal) == 2,
         "also of no animal"
     );
-    assert!(rt; left_of(&own, None, Reason::Outlier) == 7, "in all");
+    assert!(rt; left_of_all(&own, Reason::Outlier) == 7, "outliers in all");
+    assert!(rt; left_of_all(&own, Reason::NoDop) == 3, "and others");
 }
 
 #[test]
@@ -206,14 +220,18 @@ fn records_of_the_export_are_counted(rt: HostRuntime) {
         assert!(rt; false, "it is read");
         return;
     };
-    assert!(rt; records_of(&own, Some(b"vixen")) == 16, "of an animal");
-    assert!(rt; records_of(&own, Some(b"old boar")) == 11, "of another");
-    assert!(rt; records_of(&own, Some(b"")) == 2, "of none");
+    let Ok(table) = tally(rt.alloc(), &own) else {
+        assert!(rt; false, "it is counted");
+        return;
+    };
+    assert!(rt; counts_at(&table, b"vixen").records == 16, "of an animal");
+    assert!(rt; counts_at(&table, b"old boar").records == 11, "of another");
+    assert!(rt; counts_at(&table, b"").records == 2, "of none");
     assert!(rt;
-        records_of(&own, Some(b"badger")) == 0,
+        counts_at(&table, b"badger") == NO_COUNTS,
         "of one that is not there"
     );
-    assert!(rt; records_of(&own, None) == 29, "of all");
+    assert!(rt; records_of_all(&own) == 29, "of all");
 }
 
 #[test]
@@ -242,5 +260,5 @@ fn a_record_of_a_frame_is_read(rt: HostRuntime) {
         own.left.is_empty() && own.tracks.is_empty(),
         "nor of these"
     );
-    assert!(rt; records_of(&own, None) == 0, "no records");
+    assert!(rt; records_of_all(&own) == 0, "no records");
 }
