@@ -6,6 +6,7 @@ mod counts;
 mod fault;
 mod fields;
 mod kind;
+mod laws;
 mod put;
 mod reading;
 mod record;
@@ -18,6 +19,7 @@ pub use counts::{
 };
 pub use fault::{RecordFault, Wrong, sentence};
 pub use kind::Kind;
+pub use laws::limits_are_these;
 pub use reading::read_record;
 pub use record::{Given, LeftOut, Made, Record};
 pub use system::system_of;
