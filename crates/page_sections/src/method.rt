@@ -3,6 +3,7 @@
 use crate::cells::push_count;
 use crate::reasons::phrase;
 use crate::shown::{Shown, Source, levels_of, source_words};
+use memchr::memmem;
 use page_record::{Given, Record};
 use page_text::{between, push_escaped, push_fixes};
 use range_plane::Scale;
@@ -156,7 +157,7 @@ pub fn push_left_out(
 
 // Whether words stand in a line.
 fn has(line: &[u8], words: &[u8]) -> bool {
-    line.windows(words.len()).any(|own| own == words)
+    memmem::find(line, words).is_some()
 }
 
 // Whether a line is on one animal, on columns or on files, which the page has elsewhere or not at all.
@@ -191,8 +192,8 @@ fn push_more(text: &mut Vec<u8>, more: usize) -> Result<(), AllocError> {
 
 // Appends the first lines, and how many more there are.
 fn push_lines(text: &mut Vec<u8>, lines: &[Vec<u8>]) -> Result<(), AllocError> {
-    let mut quoted = 0;
-    let mut more = 0;
+    let mut quoted: usize = 0;
+    let mut more: usize = 0;
     for line in lines {
         if is_passed(line) {
             continue;
@@ -201,9 +202,9 @@ fn push_lines(text: &mut Vec<u8>, lines: &[Vec<u8>]) -> Result<(), AllocError> {
             let before: &[u8] = if quoted == 0 { b"" } else { b"; " };
             text.extend_from_slice(before)?;
             push_line(text, line)?;
-            quoted += 1;
+            quoted = quoted.saturating_add(1);
         } else {
-            more += 1;
+            more = more.saturating_add(1);
         }
     }
     push_more(text, more)

@@ -35,7 +35,7 @@ fn share(report: &Report, animal: usize, range: usize) -> u64 {
 }
 
 // A pair, if it meets.
-fn meeting(report: &Report, one: usize, other: usize) -> Option<Meeting> {
+fn pair_if(report: &Report, one: usize, other: usize) -> Option<Meeting> {
     if count(report, one, other) == 0 && count(report, other, one) == 0 {
         return None;
     }
@@ -49,8 +49,8 @@ fn meeting(report: &Report, one: usize, other: usize) -> Option<Meeting> {
 
 // Adds the pairs of an animal and those behind it.
 fn add_meetings(found: &mut Vec<Meeting>, report: &Report, one: usize) -> Result<(), AllocError> {
-    for other in one + 1..report.animals.len() {
-        if let Some(own) = meeting(report, one, other) {
+    for other in one.saturating_add(1)..report.animals.len() {
+        if let Some(own) = pair_if(report, one, other) {
             found.push(own)?;
         }
     }

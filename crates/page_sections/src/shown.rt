@@ -1,5 +1,7 @@
 // What a page shows.
 
+ghost use Rattle.std.specs.Prelude.{◌<◌, ◌^◌};
+
 use page_report::Report;
 use page_tables::Told;
 use range_stats::PercentRow;
