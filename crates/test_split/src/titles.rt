@@ -112,11 +112,11 @@ fn exact_titles_go_first(rt: HostRuntime) -> Result<(), Fail> {
             ),
             (
                 "id,Date,DATE,date,x,y",
-                "animal 0; time 3; metres 4 5; unread 1 2",
+                "ambiguous: column 2 'Date' and column 4 'date' both fit date: rename one",
             ),
             (
                 "animal,second,easting,northing,Use,use,USE",
-                "animal 0; time 1; second; metres 2 3; own; use 5; unread 4 6",
+                "ambiguous: column 5 'Use' and column 6 'use' both fit use: rename one",
             ),
             (
                 " X ,id,date, x ,y",
