@@ -15,6 +15,7 @@ use std::alloc::{AllocError, Global};
 const MOST_SAID: usize = 12;
 
 /// How many fixes were left out of all records, by reasons.
+#[derive(Clone, Copy)]
 pub struct Totals<'a> {
     /// How many records the export or the table had.
     pub records: u64,

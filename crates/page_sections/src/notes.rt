@@ -9,6 +9,7 @@ use std::alloc::AllocError;
 const MOST_NAMED: usize = 20;
 
 /// An animal none of whose fixes is used.
+#[derive(Clone, Copy)]
 pub struct Unused<'a> {
     pub name: &'a [u8],
     /// How many records it has.

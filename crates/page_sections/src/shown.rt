@@ -17,6 +17,7 @@ pub enum Source {
 }
 
 /// What a page shows of a report.
+#[derive(Clone, Copy)]
 pub struct Shown<'a> {
     pub report: &'a Report,
     /// What is told of each animal, in the order of the report.

@@ -4,6 +4,7 @@ use page_text::{push_escaped, push_named};
 use std::alloc::AllocError;
 
 /// What the checksums of a page are of. Each is of SHA-256, in 64 digits.
+#[derive(Clone, Copy)]
 pub struct Sums<'a> {
     /// The export and its checksum; none where the tracks were made of a table in memory.
     pub export: Option<(&'a [u8], &'a [u8])>,
