@@ -1,3 +1,4 @@
+pub mod Counting
 pub mod ReadingFacts
 pub mod Tracks
 pub mod Unescaping

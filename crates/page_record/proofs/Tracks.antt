@@ -33,10 +33,16 @@ found_made name [] = refl
 found_made {A} name (entry ∷ entries) =
     elim (cases_Bool (bytes_eq name entry.0.items)) [ inl is ↦ rw is refl | inr none ↦ rw none (found_made {A = A} name entries) ]
 
+-- the tracks of one entry more
+pub one_track_more : {A : Type 0} (entries : List (Vec ℕ A × Made)) (index : ℕ) (entry : Vec ℕ A × Made) → slice_get entries index ≡ Some entry
+    → map track_seen (take (index + 1) entries) ≡ map track_seen (take index entries) ++ track_seen entry ∷ []
+one_track_more {A} entries index entry at =
+    let within = slice_get_within entries index entry at in
+    let is : get_or entries index entry ≡ entry = get_or_from_slice_get entries index entry entry at in
+    rw (take_more entries index entry within, is, map-append (track_seen {A = A}) (take index entries) (entry ∷ [])) refl
+
 -- a sum over tracks, of which one more is counted
 pub sum_more : {A : Type 0} (f : TrackSaid → ℕ) (entries : List (Vec ℕ A × Made)) (index : ℕ) (entry : Vec ℕ A × Made) → slice_get entries index ≡ Some entry
     → sum_by f (map track_seen (take (index + 1) entries)) ≡ sum_by f (map track_seen (take index entries)) + f (track_seen entry)
 sum_more {A} f entries index entry at =
-    let within = slice_get_within entries index entry at in
-    let is : get_or entries index entry ≡ entry = get_or_from_slice_get entries index entry entry at in
-    rw (take_more entries index entry within, is, map-append (track_seen {A = A}) (take index entries) (entry ∷ []), sum_by-append f (map track_seen (take index entries)) (track_seen entry ∷ [])) (omega arith)
+    rw (one_track_more {A = A} entries index entry at, sum_by-append f (map track_seen (take index entries)) (track_seen entry ∷ [])) (omega arith)

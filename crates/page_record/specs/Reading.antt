@@ -114,11 +114,11 @@ shift_of text = do
   Some (east, north)
 
 -- an option's name, and behind a comma its value
-abbrev pub option_by : List ℕ → Option (List ℕ × List ℕ) → OptionSaid
-option_by text None = record { name = text; value = None }
-option_by text (Some (name, value)) = record { name = name; value = Some (unescaped value) }
+abbrev pub option_by : List ℕ → Option (List ℕ × List ℕ) → Option OptionSaid
+option_by text None = Some (record { name = text; value = None })
+option_by text (Some (name, value)) = option_map (λ own. record { name = name; value = Some own }) (unescaped value)
 
-unfoldable pub option_of : List ℕ → OptionSaid
+unfoldable pub option_of : List ℕ → Option OptionSaid
 option_of text = option_by text (cut 44 text)
 
 unfoldable pub left_of : List ℕ → Option LeftSaid
@@ -144,9 +144,9 @@ track_of text = do
 
 -- ---- a record with what one more line says
 -- what stands behind a kind is put into a record, or is none of the kind
-abbrev pub put_if : {A : Type 0} → Kind → Option A → (A → Read) → Result Read Wrong
-put_if kind None put = Err (wrongs.Fields kind)
-put_if kind (Some own) put = Ok (put own)
+abbrev pub put_if : {A : Type 0} → Wrong → Option A → (A → Read) → Result Read Wrong
+put_if wrong None put = Err wrong
+put_if wrong (Some own) put = Ok (put own)
 
 abbrev pub file_of : List ℕ → Option (List ℕ)
 file_of text = if is_file_name text then Some text else None
@@ -156,19 +156,19 @@ abbrev pub has_track : List ℕ → List TrackSaid → Bool
 has_track name tracks = list_any (λ track. bytes_eq name track.name) tracks
 
 abbrev pub put_track : Read → Option TrackSaid → Result Read Wrong
-put_track so_far None = Err (wrongs.Fields kinds.Track)
+put_track so_far None = Err wrongs.Track
 put_track so_far (Some track) =
     if has_track track.name so_far.tracks then Err wrongs.Again else Ok (record so_far { tracks = so_far.tracks ++ track ∷ [] })
 
 abbrev pub put_line : Kind → List ℕ → Read → Result Read Wrong
-put_line kinds.Export text so_far = put_if kinds.Export (file_of text) (λ name. record so_far { export = Some name })
-put_line kinds.Sum text so_far = put_if kinds.Sum (sum_of text) (λ sum. record so_far { sum = Some sum })
-put_line kinds.Scale text so_far = put_if kinds.Scale (unit_of text) (λ unit. record so_far { unit = unit })
-put_line kinds.Zone text so_far = put_if kinds.Zone (zone_of text) (λ zone. record so_far { zone = zone })
-put_line kinds.Shift text so_far = put_if kinds.Shift (shift_of text) (λ shift. record so_far { shift = shift })
-put_line kinds.Given text so_far = Ok (record so_far { options = so_far.options ++ option_of text ∷ [] })
+put_line kinds.Export text so_far = put_if wrongs.Export (file_of text) (λ name. record so_far { export = Some name })
+put_line kinds.Sum text so_far = put_if wrongs.Sum (sum_of text) (λ sum. record so_far { sum = Some sum })
+put_line kinds.Scale text so_far = put_if wrongs.Scale (unit_of text) (λ unit. record so_far { unit = unit })
+put_line kinds.Zone text so_far = put_if wrongs.Zone (zone_of text) (λ zone. record so_far { zone = zone })
+put_line kinds.Shift text so_far = put_if wrongs.Shift (shift_of text) (λ shift. record so_far { shift = shift })
+put_line kinds.Given text so_far = put_if wrongs.Escape (option_of text) (λ given. record so_far { options = so_far.options ++ given ∷ [] })
 put_line kinds.Said text so_far = Ok (record so_far { said = so_far.said ++ text ∷ [] })
-put_line kinds.Left text so_far = put_if kinds.Left (left_of text) (λ left. record so_far { left = so_far.left ++ left ∷ [] })
+put_line kinds.Left text so_far = put_if wrongs.Left (left_of text) (λ left. record so_far { left = so_far.left ++ left ∷ [] })
 put_line kinds.Track text so_far = put_track so_far (track_of text)
 put_line kinds.Tool text so_far = Ok (record so_far { tools = so_far.tools ++ text ∷ [] })
 

@@ -1,6 +1,6 @@
 -- The value of an option, of which a record has escapes: `\\` for a backslash, `\x1b` for a control character, and `\u2028` for a
--- separator of lines. A backslash that begins none of these stays.
-use Rattle.std.specs.Prelude.{ℕ, zero, suc, Bool, ◌==◌, ◌+◌, ◌-◌, ◌*◌, ◌&&◌, ◌||◌, nat_le, nat_lt, if◌then◌else◌, List, [], ◌∷◌, ◌++◌, slice_index, Option, Some, None}
+-- separator of lines. None is read where a backslash begins none of these.
+use Rattle.std.specs.Prelude.{ℕ, zero, suc, Bool, ◌==◌, ◌+◌, ◌-◌, ◌*◌, ◌&&◌, ◌||◌, nat_le, nat_lt, if◌then◌else◌, List, [], ◌∷◌, ◌++◌, slice_index, Option, Some, None, option_map}
 use Rattle.std.specs.Char.{is_ascii_digit}
 use Rattle.page_report.specs.Fields.{◌>>=◌}
 use Rattle.page_record.specs.declared.unescaped.Sign.{Sign}
@@ -18,8 +18,8 @@ code_in text = do
   Some (high * 16 + low)
 
 -- what an escape of a code stands for: a control character of one byte, or of two
-abbrev pub code_sign : ℕ → Sign
-code_sign code = if nat_lt code 128 then Control code else (if nat_lt code 160 then LongControl code else Byte 0x5C)
+abbrev pub code_sign : ℕ → Option Sign
+code_sign code = if nat_lt code 128 then Some (Control code) else (if nat_lt code 160 then Some (LongControl code) else None)
 
 -- whether a text starts with the escape of a separator
 abbrev pub is_separator : List ℕ → Bool
@@ -32,18 +32,15 @@ abbrev pub separator_end : ℕ → ℕ
 separator_end digit = if digit == 56 then 0xA8 else 0xA9
 
 -- what stands at the start of a text that starts with a backslash
-abbrev pub coded : Bool → Option ℕ → Sign
-coded is_code None = Byte 0x5C
-coded is_code (Some code) = if is_code then code_sign code else Byte 0x5C
-
-unfoldable pub escape_in : List ℕ → Sign
+unfoldable pub escape_in : List ℕ → Option Sign
 escape_in text =
-    if slice_index text 1 == 0x5C then Backslash
-    else (if is_separator text then Separator (separator_end (slice_index text 5)) else coded (slice_index text 1 == 120) (code_in text))
+    if slice_index text 1 == 0x5C then Some Backslash
+    else (if is_separator text then Some (Separator (separator_end (slice_index text 5)))
+    else (if slice_index text 1 == 120 then code_in text >>= code_sign else None))
 
 -- what stands at the start of a text
-unfoldable pub sign_in : List ℕ → Sign
-sign_in text = if slice_index text 0 == 0x5C then escape_in text else Byte (slice_index text 0)
+unfoldable pub sign_in : List ℕ → Option Sign
+sign_in text = if slice_index text 0 == 0x5C then escape_in text else Some (Byte (slice_index text 0))
 
 -- what a sign stands for
 abbrev pub sign_text : Sign → List ℕ
@@ -61,12 +58,16 @@ sign_behind (Control code) = 3
 sign_behind (LongControl code) = 3
 sign_behind (Separator last) = 5
 
+-- a sign before what is read of a text
+abbrev pub behind_sign : Sign → Option (List ℕ) → Option (List ℕ)
+behind_sign sign more = option_map (λ own. sign_text sign ++ own) more
+
 -- a text with what its escapes stand for, without so many bytes at its start
-unfoldable pub unescaped_behind : ℕ → List ℕ → List ℕ
-unescaped_behind behind [] = []
-unescaped_behind zero (byte ∷ others) = sign_text (sign_in (byte ∷ others)) ++ unescaped_behind (sign_behind (sign_in (byte ∷ others))) others
+unfoldable pub unescaped_behind : ℕ → List ℕ → Option (List ℕ)
+unescaped_behind behind [] = Some []
+unescaped_behind zero (byte ∷ others) = sign_in (byte ∷ others) >>= (λ sign. behind_sign sign (unescaped_behind (sign_behind sign) others))
 unescaped_behind (suc behind) (byte ∷ others) = unescaped_behind behind others
 
 -- a text with what its escapes stand for
-abbrev pub unescaped : List ℕ → List ℕ
+abbrev pub unescaped : List ℕ → Option (List ℕ)
 unescaped text = unescaped_behind 0 text

@@ -6,6 +6,7 @@ mod counts;
 mod fault;
 mod fields;
 mod kind;
+mod laws;
 mod put;
 mod reading;
 mod record;
@@ -13,9 +14,12 @@ mod system;
 mod unescaped;
 mod zone;
 
-pub use counts::{left_of, records_of, track_of};
+pub use counts::{
+    Counts, NO_COUNTS, counts_at, left_of_all, place_in, records_of_all, tally, track_of,
+};
 pub use fault::{RecordFault, Wrong, sentence};
 pub use kind::Kind;
+pub use laws::limits_are_these;
 pub use reading::read_record;
 pub use record::{Given, LeftOut, Made, Record};
 pub use system::system_of;

@@ -1,10 +1,10 @@
 // A record with what one more line says.
 
-ghost use Rattle.std.specs.Prelude.{◌≡◌, ◌++◌, ◌∷◌, [], IfErr, IfOk, Ok, OnOk, false, map, option_map};
-ghost use Rattle.page_record.specs.Reading.{IsFaultOf, has_track, left_of, left_with, made_of, option_of, option_seen, put_line, read, shift_of, track_of, track_seen, track_with, unit_of};
+ghost use Rattle.std.specs.Prelude.{◌≡◌, ◌++◌, ◌∷◌, [], IfErr, IfOk, None, Ok, OnOk, Some, false, map, option_map};
+ghost use Rattle.page_record.specs.Reading.{IsFaultOf, has_track, left_of, left_with, made_of, option_by, option_of, option_seen, put_line, read, shift_of, track_of, track_seen, track_with, unit_of};
 ghost use Rattle.page_record.specs.Unescaped.{unescaped};
 
-use crate::fault::{LineFault, Wrong, no_field};
+use crate::fault::{LineFault, Wrong};
 use crate::fields::{counted, cut, is_file_name, reason_of, sum_of, whole_of};
 use crate::kind::Kind;
 use crate::record::{Given, LeftOut, Made, Record};
@@ -14,6 +14,13 @@ use indexmap::IndexMap;
 use range_plane::Scale;
 use split_tracks::Reason;
 use std::alloc::Global;
+
+// That this is wrong with a line.
+pub(crate) fn is_wrong(wrong: Wrong) -> LineFault
+    ensures { result ≡ LineFault.Wrong wrong }
+{
+    LineFault::Wrong { wrong }
+}
 
 // A text once more.
 fn copy_of(alloc: Global, text: &[u8]) -> Result<Vec<u8>, LineFault>
@@ -61,8 +68,8 @@ fn shift_of(text: &[u8]) -> Option<(i64, i64)>
 }
 
 // The value of an option.
-fn value_of(alloc: Global, text: &[u8]) -> Result<Vec<u8>, LineFault>
-    ensures value { IfOk result (λ value. value.items ≡ unescaped text.now) }
+fn value_of(alloc: Global, text: &[u8]) -> Result<Option<Vec<u8>>, LineFault>
+    ensures value { IfOk result (λ value. option_map (λ own. own.items) value ≡ unescaped text.now) }
     ensures fault { IfErr result (λ fault. fault ≡ LineFault.OutOfMemory) }
 {
     match unescaped(alloc, text) {
@@ -71,21 +78,39 @@ fn value_of(alloc: Global, text: &[u8]) -> Result<Vec<u8>, LineFault>
     }
 }
 
-// An option.
+// An option of this name, and of what stands behind its comma.
+fn option_with(alloc: Global, name: &[u8], text: &[u8]) -> Result<Option<Given>, LineFault>
+    ensures given { IfOk result (λ given. option_map option_seen given ≡ option_by name.now (Some (name.now, text.now))) }
+    ensures fault { IfErr result (λ fault. fault ≡ LineFault.OutOfMemory) }
+{
+    let Some(value) = value_of(alloc, text)? else {
+        return Ok(None);
+    };
+    let name = copy_of(alloc, name)?;
+    Ok(Some(Given {
+        name,
+        value: Some(value),
+    }))
+}
+
+// An option of this name alone.
+fn option_named(alloc: Global, name: &[u8]) -> Result<Option<Given>, LineFault>
+    ensures given { IfOk result (λ given. option_map option_seen given ≡ option_by name.now None) }
+    ensures fault { IfErr result (λ fault. fault ≡ LineFault.OutOfMemory) }
+{
+    let name = copy_of(alloc, name)?;
+    Ok(Some(Given { name, value: None }))
+}
+
+// An option; none where its value has a backslash that begins no escape.
 #[tactic(auto, unfolding(crate::specs::Reading::option_of))]
-fn option_of(alloc: Global, text: &[u8]) -> Result<Given, LineFault>
-    ensures given { IfOk result (λ given. option_seen given ≡ option_of text.now) }
+fn option_of(alloc: Global, text: &[u8]) -> Result<Option<Given>, LineFault>
+    ensures given { IfOk result (λ given. option_map option_seen given ≡ option_of text.now) }
     ensures fault { IfErr result (λ fault. fault ≡ LineFault.OutOfMemory) }
 {
     match cut(text, b',') {
-        Some((name, value)) => Ok(Given {
-            name: copy_of(alloc, name)?,
-            value: Some(value_of(alloc, value)?),
-        }),
-        None => Ok(Given {
-            name: copy_of(alloc, text)?,
-            value: None,
-        }),
+        Some((name, value)) => option_with(alloc, name, value),
+        None => option_named(alloc, text),
     }
 }
 
@@ -129,7 +154,7 @@ fn put_export(alloc: Global, so_far: &mut Record, text: &[u8]) -> Result<(), Lin
     ensures fault { IfErr result (IsFaultOf (put_line Kind.Export text.now (read so_far.old))) }
 {
     if !is_file_name(text) {
-        return Err(no_field(Kind::Export));
+        return Err(is_wrong(Wrong::Export));
     }
     so_far.export = Some(copy_of(alloc, text)?);
     Ok(())
@@ -141,7 +166,7 @@ fn put_sum(so_far: &mut Record, text: &[u8]) -> Result<(), LineFault>
     ensures fault { IfErr result (IsFaultOf (put_line Kind.Sum text.now (read so_far.old))) }
 {
     let Some(sum) = sum_of(text) else {
-        return Err(no_field(Kind::Sum));
+        return Err(is_wrong(Wrong::Sum));
     };
     so_far.sum = Some(sum);
     Ok(())
@@ -153,7 +178,7 @@ fn put_unit(so_far: &mut Record, text: &[u8]) -> Result<(), LineFault>
     ensures fault { IfErr result (IsFaultOf (put_line Kind.Scale text.now (read so_far.old))) }
 {
     let Some(unit) = unit_of(text) else {
-        return Err(no_field(Kind::Scale));
+        return Err(is_wrong(Wrong::Scale));
     };
     so_far.unit = unit;
     Ok(())
@@ -165,7 +190,7 @@ fn put_zone(so_far: &mut Record, text: &[u8]) -> Result<(), LineFault>
     ensures fault { IfErr result (IsFaultOf (put_line Kind.Zone text.now (read so_far.old))) }
 {
     let Some(zone) = zone_of(text) else {
-        return Err(no_field(Kind::Zone));
+        return Err(is_wrong(Wrong::Zone));
     };
     so_far.zone = zone;
     Ok(())
@@ -177,7 +202,7 @@ fn put_shift(so_far: &mut Record, text: &[u8]) -> Result<(), LineFault>
     ensures fault { IfErr result (IsFaultOf (put_line Kind.Shift text.now (read so_far.old))) }
 {
     let Some(shift) = shift_of(text) else {
-        return Err(no_field(Kind::Shift));
+        return Err(is_wrong(Wrong::Shift));
     };
     so_far.shift = shift;
     Ok(())
@@ -188,7 +213,9 @@ fn put_option(alloc: Global, so_far: &mut Record, text: &[u8]) -> Result<(), Lin
     ensures found { OnOk result (put_line Kind.Given text.now (read so_far.old) ≡ Ok (read so_far.new)) }
     ensures fault { IfErr result (IsFaultOf (put_line Kind.Given text.now (read so_far.old))) }
 {
-    let given = option_of(alloc, text)?;
+    let Some(given) = option_of(alloc, text)? else {
+        return Err(is_wrong(Wrong::Escape));
+    };
     push(&mut so_far.options, given)
 }
 
@@ -207,7 +234,7 @@ fn put_left(alloc: Global, so_far: &mut Record, text: &[u8]) -> Result<(), LineF
     ensures fault { IfErr result (IsFaultOf (put_line Kind.Left text.now (read so_far.old))) }
 {
     let Some((name, count, reason)) = left_of(text) else {
-        return Err(no_field(Kind::Left));
+        return Err(is_wrong(Wrong::Left));
     };
     let left = LeftOut {
         name: copy_of(alloc, name)?,
@@ -247,12 +274,10 @@ fn put_track(alloc: Global, so_far: &mut Record, text: &[u8]) -> Result<(), Line
     ensures fault { IfErr result (IsFaultOf (put_line Kind.Track text.now (read so_far.old))) }
 {
     let Some((name, made)) = track_of(text) else {
-        return Err(no_field(Kind::Track));
+        return Err(is_wrong(Wrong::Track));
     };
     if has_track(&so_far.tracks, name) {
-        return Err(LineFault::Wrong {
-            wrong: Wrong::Again,
-        });
+        return Err(is_wrong(Wrong::Again));
     }
     let name = copy_of(alloc, name)?;
     push_track(&mut so_far.tracks, name, made)

@@ -6,7 +6,7 @@ ghost use Rattle.page_record.specs.Reading.{IsFaultOf, IsRefusal, all_read, at_l
 use crate::fault::{LineFault, RecordFault, Wrong};
 use crate::fields::{cut, is_utf8};
 use crate::kind::{Kind, kind_of, may_follow};
-use crate::put::put_line;
+use crate::put::{is_wrong, put_line};
 use crate::record::{Record, nothing};
 use std::alloc::Global;
 
@@ -16,13 +16,6 @@ struct Reader {
     // The kind of the last line.
     last: Option<Kind>,
     so_far: Record,
-}
-
-// That this is wrong with a line.
-fn is_wrong(wrong: Wrong) -> LineFault
-    ensures { result ≡ LineFault.Wrong wrong }
-{
-    LineFault::Wrong { wrong }
 }
 
 // The kind of a line, which may stand behind the last one, and what stands behind the kind.

@@ -1,6 +1,6 @@
 // The value of an option, of which a record has escapes.
 
-ghost use Rattle.std.specs.Prelude.{◌≡◌, ◌<◌, ◌++◌, IfOk, IfSome, OnOk, slice_index};
+ghost use Rattle.std.specs.Prelude.{◌≡◌, ◌<◌, ◌++◌, IfOk, IfSome, OnOk, option_map, slice_index};
 ghost use Rattle.page_record.specs.Unescaped.{code_in, code_sign, escape_in, hex_value, is_separator, separator_end, sign_behind, sign_in, sign_text, unescaped};
 
 use std::alloc::{AllocError, Global};
@@ -50,15 +50,15 @@ fn code_in(text: &[u8]) -> Option<u8>
 }
 
 // What an escape of a code stands for.
-fn code_sign(code: u8) -> Sign
+fn code_sign(code: u8) -> Option<Sign>
     ensures { result ≡ code_sign code }
 {
     if code < 128 {
-        Sign::Control { code }
+        Some(Sign::Control { code })
     } else if code < 160 {
-        Sign::LongControl { code }
+        Some(Sign::LongControl { code })
     } else {
-        Sign::Byte { byte: b'\\' }
+        None
     }
 }
 
@@ -83,33 +83,34 @@ fn separator_end(digit: u8) -> u8
 
 // What stands at the start of a text that starts with a backslash.
 #[tactic(auto, unfolding(crate::specs::Unescaped::escape_in))]
-fn escape_in(text: &[u8]) -> Sign
+fn escape_in(text: &[u8]) -> Option<Sign>
     ensures { result ≡ escape_in text.now }
 {
     if byte_at(text, 1) == b'\\' {
-        return Sign::Backslash;
+        return Some(Sign::Backslash);
     }
     if is_separator(text) {
-        return Sign::Separator {
+        return Some(Sign::Separator {
             last: separator_end(byte_at(text, 5)),
-        };
+        });
     }
-    match code_in(text) {
-        Some(code) if byte_at(text, 1) == b'x' => code_sign(code),
-        _ => Sign::Byte { byte: b'\\' },
+    if byte_at(text, 1) == b'x' {
+        code_sign(code_in(text)?)
+    } else {
+        None
     }
 }
 
 // What stands at the start of a text.
 #[tactic(auto, unfolding(crate::specs::Unescaped::sign_in))]
-fn sign_in(text: &[u8]) -> Sign
+fn sign_in(text: &[u8]) -> Option<Sign>
     ensures { result ≡ sign_in text.now }
 {
     let byte = byte_at(text, 0);
     if byte == b'\\' {
         escape_in(text)
     } else {
-        Sign::Byte { byte }
+        Some(Sign::Byte { byte })
     }
 }
 
@@ -138,9 +139,9 @@ fn push_sign(text: &mut Vec<u8>, sign: Sign) -> Result<(), AllocError>
     }
 }
 
-// A text with what its escapes stand for.
-pub(crate) fn unescaped(alloc: Global, text: &[u8]) -> Result<Vec<u8>, AllocError>
-    ensures { IfOk result (λ own. own.items ≡ unescaped text.now) }
+// A text with what its escapes stand for; none where a backslash begins no escape.
+pub(crate) fn unescaped(alloc: Global, text: &[u8]) -> Result<Option<Vec<u8>>, AllocError>
+    ensures { IfOk result (λ own. option_map (λ value. value.items) own ≡ unescaped text.now) }
 {
     let mut own = Vec::new(alloc);
     let mut behind = 0;
@@ -149,10 +150,12 @@ pub(crate) fn unescaped(alloc: Global, text: &[u8]) -> Result<Vec<u8>, AllocErro
         if behind > 0 {
             behind -= 1;
         } else {
-            let sign = sign_in(rest);
+            let Some(sign) = sign_in(rest) else {
+                return Ok(None);
+            };
             push_sign(&mut own, sign)?;
             behind = sign_behind(sign);
         }
     }
-    Ok(own)
+    Ok(Some(own))
 }

@@ -161,11 +161,11 @@ shift_back east north few few_north =
     (then_some _ _ east _ (whole_back east few) (then_some _ _ north _ (whole_back north few_north) refl))
 
 -- ---- options
-pub option_back : (name : List ℕ) → has_no_comma name ≡ true → option_of (one_line name) ≡ record { name = one_line name; value = None }
+pub option_back : (name : List ℕ) → has_no_comma name ≡ true → option_of (one_line name) ≡ Some (record { name = one_line name; value = None })
 unfolding option_of
 option_back name named = rw (cut_none 44 (one_line name) (name_lacks name named)) refl
 
-pub valued_back : (name value : List ℕ) → has_no_comma name ≡ true → option_of (one_line name ++ 44 ∷ one_line (doubled value)) ≡ record { name = one_line name; value = Some value }
+pub valued_back : (name value : List ℕ) → has_no_comma name ≡ true → option_of (one_line name ++ 44 ∷ one_line (doubled value)) ≡ Some (record { name = one_line name; value = Some value })
 unfolding option_of
 valued_back name value named =
     rw (cut_at 44 (one_line name) (one_line (doubled value)) (name_lacks name named), value_back value) refl

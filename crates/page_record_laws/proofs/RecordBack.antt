@@ -26,6 +26,7 @@ use Rattle.page_record.specs.declared.kind.Kind.TheVariants as kinds
 use Rattle.page_record.proofs.ReadingFacts.{goes_on}
 use Rattle.page_record_laws.specs.Back.{export_from, left_from, option_from, record_from, sum_from, track_from, zone_from}
 use Rattle.page_record_laws.specs.Within.{AreNew, IsExportWithin, IsLeftWithin, IsRecordWithin, IsTrackWithin, has_no_comma, is_text}
+use Rattle.page_record_laws.proofs.Texts.{file_still}
 use Rattle.page_record_laws.proofs.LinesBack.{export_back, left_line_back, option_line_back, said_line_back, shift_line_back, sum_line_back, tool_line_back, track_line_back, unit_line_back, zone_line_back}
 
 -- ---- the parts of a text
@@ -199,7 +200,7 @@ module _ («record» : Record) (within : IsRecordWithin «record») where
         last = rest.last;
         behind = rest.behind;
         is = one_back 1 (None, nothing) (Some kinds.Export, with_export) (export_line export.name.now) (sum_line export.sum ∷ unit_on ++ others)
-            (export_back None nothing export.name.now refl first.0 own.name)
+            (export_back None nothing export.name.now refl first.0 (file_still export.name.now own.name))
             ∙ one_back 2 (Some kinds.Export, with_export) (Some kinds.Sum, with_sum) (sum_line export.sum) (unit_on ++ others)
             (sum_line_back (Some kinds.Export) with_export export.sum refl second.0 own.sum)
             ∙ rest.is;

@@ -1,5 +1,5 @@
 -- The value of an option, read back.
-use Rattle.std.proofs.Common.{◌≡◌, ◌<◌, ◌≤◌, ◌+◌, ◌-◌, ◌*◌, ◌/◌, ◌%◌, ◌==◌, ℕ, zero, suc, true, false, nat_lt, List, [], ◌∷◌, ◌++◌, length, slice_index, Some, refl, sym, ap, subst, ◌∙◌, ◌⊎◌, codes, arith, inl, inr, eqb-true}
+use Rattle.std.proofs.Common.{◌≡◌, ◌<◌, ◌≤◌, ◌+◌, ◌-◌, ◌*◌, ◌/◌, ◌%◌, ◌==◌, ℕ, zero, suc, true, false, nat_lt, List, [], ◌∷◌, ◌++◌, length, slice_index, Some, option_map, refl, sym, ap, subst, ◌∙◌, ◌⊎◌, codes, arith, inl, inr, eqb-true}
 use Rattle.std.specs.Char.{is_ascii_control}
 use Rattle.std.proofs.lemmas.Bool.{cases_Bool}
 use Rattle.std.proofs.lemmas.Bool.Decides.{nat_tests}
@@ -29,7 +29,7 @@ digit_back (suc (suc (suc (suc (suc (suc (suc (suc (suc (suc (suc (suc (suc (suc
 
 -- ---- escapes
 -- a control character of ASCII
-control_back : (code : ℕ) (rest : List ℕ) → code < 128 → unescaped (escaped (codes "\\x") code ++ rest) ≡ code ∷ unescaped rest
+control_back : (code : ℕ) (rest : List ℕ) → code < 128 → unescaped (escaped (codes "\\x") code ++ rest) ≡ option_map (λ l. code ∷ l) (unescaped rest)
 unfolding unescaped_behind sign_in escape_in encode_with
 control_back code rest small =
     let whole : (code / 16) * 16 + code % 16 ≡ code = omega arith in
@@ -37,7 +37,7 @@ control_back code rest small =
     rw (digit_back (code / 16) (omega (arith, small)), digit_back (code % 16) (omega arith), whole, is_small) refl
 
 -- one of two bytes
-long_back : (code : ℕ) (rest : List ℕ) → 128 ≤ code → code < 160 → unescaped (escaped (codes "\\x") code ++ rest) ≡ 0xC2 ∷ code ∷ unescaped rest
+long_back : (code : ℕ) (rest : List ℕ) → 128 ≤ code → code < 160 → unescaped (escaped (codes "\\x") code ++ rest) ≡ option_map (λ l. 0xC2 ∷ code ∷ l) (unescaped rest)
 unfolding unescaped_behind sign_in escape_in encode_with
 long_back code rest more less =
     let whole : (code / 16) * 16 + code % 16 ≡ code = omega arith in
@@ -46,7 +46,7 @@ long_back code rest more less =
     rw (digit_back (code / 16) (omega (arith, less)), digit_back (code % 16) (omega arith), whole, none, is_long) refl
 
 -- a separator
-separator_back : (last : ℕ) (rest : List ℕ) → (last ≡ 0xA8) ⊎ (last ≡ 0xA9) → unescaped (escaped (codes "\\u20") (last - 0x80) ++ rest) ≡ 0xE2 ∷ 0x80 ∷ last ∷ unescaped rest
+separator_back : (last : ℕ) (rest : List ℕ) → (last ≡ 0xA8) ⊎ (last ≡ 0xA9) → unescaped (escaped (codes "\\u20") (last - 0x80) ++ rest) ≡ option_map (λ l. 0xE2 ∷ 0x80 ∷ last ∷ l) (unescaped rest)
 unfolding unescaped_behind sign_in escape_in encode_with
 separator_back last rest (inl is) = rw is refl
 separator_back last rest (inr is) = rw is refl
@@ -54,12 +54,12 @@ separator_back last rest (inr is) = rw is refl
 -- ---- what is written, read back
 -- a byte that stays
 byte_back : (byte : ℕ) (others : List ℕ) → (byte == 0x5C) ≡ false → starts_control (byte ∷ others) ≡ false → starts_separator (byte ∷ others) ≡ false → is_ascii_control byte ≡ false
-    → unescaped (one_line (byte ∷ others)) ≡ byte ∷ unescaped (one_line others)
+    → unescaped (one_line (byte ∷ others)) ≡ option_map (λ l. byte ∷ l) (unescaped (one_line others))
 unfolding one_line_behind unescaped_behind sign_in
 byte_back byte others none short other plain = rw (short, other, plain, none) refl
 
 -- two backslashes
-backslash_back : (others : List ℕ) → unescaped (one_line (0x5C ∷ 0x5C ∷ others)) ≡ 0x5C ∷ unescaped (one_line others)
+backslash_back : (others : List ℕ) → unescaped (one_line (0x5C ∷ 0x5C ∷ others)) ≡ option_map (λ l. 0x5C ∷ l) (unescaped (one_line others))
 unfolding one_line_behind unescaped_behind sign_in escape_in
 backslash_back others = refl
 
@@ -113,10 +113,10 @@ separator_high byte others is = (grind (arith, nat_tests, is), grind (arith, nat
 
 -- a value of which the shorter ones are read back
 abbrev AreBack : ℕ → Type 0
-AreBack n = (text : List ℕ) → length text ≤ n → unescaped (one_line (doubled text)) ≡ text
+AreBack n = (text : List ℕ) → length text ≤ n → unescaped (one_line (doubled text)) ≡ Some text
 
 long_case : (n byte : ℕ) (others : List ℕ) → AreBack n → length others ≤ n → starts_control (byte ∷ doubled others) ≡ true
-    → unescaped (one_line (byte ∷ doubled others)) ≡ byte ∷ others
+    → unescaped (one_line (byte ∷ doubled others)) ≡ Some (byte ∷ others)
 long_case n byte others shorter few long =
     let parts = control_parts byte (doubled others) long in
     let next = begins others parts.1 in
@@ -124,11 +124,11 @@ long_case n byte others shorter few long =
     let fewer : length next.others ≤ n = omega (arith, few, ap length next.whole) in
     ap unescaped (ap (λ l. one_line (byte ∷ l)) next.written ∙ long_written byte next.first (doubled next.others) (subst (λ l. starts_control (byte ∷ l) ≡ true) next.written long))
     ∙ long_back next.first (one_line (doubled next.others)) (omega (arith, parts.1, at)) (omega (arith, parts.2, at))
-    ∙ ap (λ l. 0xC2 ∷ next.first ∷ l) (shorter next.others fewer)
-    ∙ ap (λ b. b ∷ next.first ∷ next.others) (sym parts.0) ∙ ap (λ l. byte ∷ l) (sym next.whole)
+    ∙ ap (option_map (λ l. 0xC2 ∷ next.first ∷ l)) (shorter next.others fewer)
+    ∙ ap (λ b. Some (b ∷ next.first ∷ next.others)) (sym parts.0) ∙ ap (λ l. Some (byte ∷ l)) (sym next.whole)
 
 separator_case : (n byte : ℕ) (others : List ℕ) → AreBack n → length others ≤ n → starts_control (byte ∷ doubled others) ≡ false → starts_separator (byte ∷ doubled others) ≡ true
-    → unescaped (one_line (byte ∷ doubled others)) ≡ byte ∷ others
+    → unescaped (one_line (byte ∷ doubled others)) ≡ Some (byte ∷ others)
 separator_case n byte others shorter few short is =
     let high = separator_high byte (doubled others) is in
     let next = begins others high.0 in
@@ -141,11 +141,11 @@ separator_case n byte others shorter few short is =
     ap unescaped (ap (λ l. one_line (byte ∷ l)) written ∙ separator_written byte next.first last.first (doubled last.others)
     (subst (λ l. starts_control (byte ∷ l) ≡ false) written short) (subst (λ l. starts_separator (byte ∷ l) ≡ true) written is))
     ∙ separator_back last.first (one_line (doubled last.others)) parts.2
-    ∙ ap (λ l. 0xE2 ∷ 0x80 ∷ last.first ∷ l) (shorter last.others fewer)
-    ∙ ap (λ b. b ∷ 0x80 ∷ last.first ∷ last.others) (sym parts.0) ∙ ap (λ b. byte ∷ b ∷ last.first ∷ last.others) (sym parts.1)
-    ∙ ap (λ l. byte ∷ l) (sym whole)
+    ∙ ap (option_map (λ l. 0xE2 ∷ 0x80 ∷ last.first ∷ l)) (shorter last.others fewer)
+    ∙ ap (λ b. Some (b ∷ 0x80 ∷ last.first ∷ last.others)) (sym parts.0) ∙ ap (λ b. Some (byte ∷ b ∷ last.first ∷ last.others)) (sym parts.1)
+    ∙ ap (λ l. Some (byte ∷ l)) (sym whole)
 
-other_case : (n byte : ℕ) (others : List ℕ) → AreBack n → length others ≤ n → (byte == 0x5C) ≡ false → unescaped (one_line (byte ∷ doubled others)) ≡ byte ∷ others
+other_case : (n byte : ℕ) (others : List ℕ) → AreBack n → length others ≤ n → (byte == 0x5C) ≡ false → unescaped (one_line (byte ∷ doubled others)) ≡ Some (byte ∷ others)
 other_case n byte others shorter few none =
     elim (cases_Bool (starts_control (byte ∷ doubled others))) [
       | inl long ↦ long_case n byte others shorter few long
@@ -157,13 +157,13 @@ other_case n byte others shorter few none =
                   | inl control ↦
                       let small : byte < 128 = grind (arith, nat_tests, control) in
                       ap unescaped (control_written byte (doubled others) short other control) ∙ control_back byte (one_line (doubled others)) small
-                      ∙ ap (λ l. byte ∷ l) (shorter others few)
-                  | inr plain ↦ byte_back byte (doubled others) none short other plain ∙ ap (λ l. byte ∷ l) (shorter others few)
+                      ∙ ap (option_map (λ l. byte ∷ l)) (shorter others few)
+                  | inr plain ↦ byte_back byte (doubled others) none short other plain ∙ ap (option_map (λ l. byte ∷ l)) (shorter others few)
                 ]
           ]
     ]
 
-nothing_back : unescaped (one_line []) ≡ []
+nothing_back : unescaped (one_line []) ≡ Some []
 unfolding one_line_behind unescaped_behind
 nothing_back = refl
 
@@ -174,10 +174,10 @@ back (suc n) (byte ∷ others) few =
     let fewer : length others ≤ n = omega (arith, few) in
     elim (cases_Bool (byte == 0x5C)) [
       | inl is ↦
-          rw is (backslash_back (doubled others) ∙ ap (λ l. 0x5C ∷ l) (back n others fewer) ∙ ap (λ b. b ∷ others) (sym (eqb-true byte 0x5C is)))
+          rw is (backslash_back (doubled others) ∙ ap (option_map (λ l. 0x5C ∷ l)) (back n others fewer) ∙ ap (λ b. Some (b ∷ others)) (sym (eqb-true byte 0x5C is)))
       | inr none ↦ rw none (other_case n byte others (back n) fewer none)
     ]
 
 -- a value is read as it was given
-pub value_back : (text : List ℕ) → unescaped (one_line (doubled text)) ≡ text
+pub value_back : (text : List ℕ) → unescaped (one_line (doubled text)) ≡ Some text
 value_back text = back (length text) text (omega arith)

@@ -22,9 +22,9 @@ is_text line = is_utf8 (line_text line)
 abbrev pub has_no_comma : List ℕ → Bool
 has_no_comma name = list_all (λ byte. not (byte == 44)) name
 
--- an export has a plain name of a file in its line, and a checksum
+-- an export has a plain name of a file, and a checksum
 pub record IsExportWithin (export : ExportRead) : Type 0 where
-  pub name : is_file_name (one_line export.name.now) ≡ true
+  pub name : is_file_name export.name.now ≡ true
   pub sum : is_sum export.sum ≡ true
 
 -- a zone has a number from 1 to 60

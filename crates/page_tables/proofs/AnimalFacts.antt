@@ -1,5 +1,5 @@
 -- The lines of `animals.csv`, part by part.
-use Rattle.std.proofs.Common.{◌≡◌, ℕ, ◌+◌, ◌<◌, ◌≤◌, List, [], ◌∷◌, ◌++◌, codes, decimal, length, get_or, drop, map, sym, ap, ◌∙◌, append_assoc}
+use Rattle.std.proofs.Common.{◌≡◌, ℕ, Bool, ◌+◌, ◌<◌, ◌≤◌, List, [], ◌∷◌, ◌++◌, codes, decimal, length, get_or, drop, map, sym, ap, ◌∙◌, append_assoc}
 use Rattle.std.proofs.lemmas.Grind.{flat_map-append}
 use Rattle.std.proofs.lemmas.List.{drop_all, drop_more}
 use Rattle.std.specs.List.{slice_get}
@@ -33,24 +33,24 @@ all_cells name records a b c d =
     halves name (behind_comma records) (behind a) (behind b) (behind c) (behind d) (codes "\n")
     ∙ sym (begun name records (a ++ (b ++ (c ++ d))) ∙ ap (λ l. name ++ (behind_comma records ++ l)) (four a b c d (codes "\n")))
 
-pub told_line : (report : Read) (animal : ℕ) (told : Told) → told_first report animal told ++ told_last report animal told ≡ line (told_cells report animal told)
+pub told_line : (report : Read) (dated : Bool) (animal : ℕ) (told : Told) → told_first report dated animal told ++ told_last report dated animal told ≡ line (told_cells report dated animal told)
 unfolding told_cells
-told_line report animal told =
-    all_cells (name_cell (name_if (slice_get report.animals animal))) (whole_cell told.records) (map decimal told.left.items) (fact_cells told.facts)
-    (map (level_cell report animal) (levels report)) (growth_cells told.facts)
+told_line report dated animal told =
+    all_cells (name_cell (name_if (slice_get report.animals animal))) (whole_cell told.records) (map decimal told.left.items) (fact_cells dated told.facts)
+    (map (level_cell report animal) (levels report)) (growth_cells dated told.facts)
 
 pub titles_line : (report : Read) (reasons : List (List ℕ)) → titles_first reasons ++ titles_last report ≡ line (animal_titles report reasons)
 unfolding animal_titles
 titles_line report reasons = all_cells (codes "animal") (codes "records") (reason_titles reasons) fact_titles (level_titles (levels report)) growth_titles
 
 -- the lines that are left, where the next is written
-pub next_told : (report : Read) (told : List Told) (animal : ℕ) (own : Told) → animal < length told → own ≡ get_or told animal own
-    → table (told_lines report animal (drop animal told)) ≡ line (told_cells report animal own) ++ table (told_lines report (animal + 1) (drop (animal + 1) told))
+pub next_told : (report : Read) (dated : Bool) (told : List Told) (animal : ℕ) (own : Told) → animal < length told → own ≡ get_or told animal own
+    → table (told_lines report dated animal (drop animal told)) ≡ line (told_cells report dated animal own) ++ table (told_lines report dated (animal + 1) (drop (animal + 1) told))
 unfolding told_lines
-next_told report told animal own within is =
-    let rest = table (told_lines report (animal + 1) (drop (animal + 1) told)) in
-    ap (λ l. table (told_lines report animal l)) (drop_more told animal own within) ∙ ap (λ x. line (told_cells report animal x) ++ rest) (sym is)
+next_told report dated told animal own within is =
+    let rest = table (told_lines report dated (animal + 1) (drop (animal + 1) told)) in
+    ap (λ l. table (told_lines report dated animal l)) (drop_more told animal own within) ∙ ap (λ x. line (told_cells report dated animal x) ++ rest) (sym is)
 
-pub none_told : (report : Read) (told : List Told) (animal : ℕ) → length told ≤ animal → table (told_lines report animal (drop animal told)) ≡ []
+pub none_told : (report : Read) (dated : Bool) (told : List Told) (animal : ℕ) → length told ≤ animal → table (told_lines report dated animal (drop animal told)) ≡ []
 unfolding told_lines
-none_told report told animal ended = ap (λ l. table (told_lines report animal l)) (drop_all animal told ended)
+none_told report dated told animal ended = ap (λ l. table (told_lines report dated animal l)) (drop_all animal told ended)

@@ -3,4 +3,3 @@ mod DoubleFacts
 mod LawFacts
 mod NumberFacts
 mod TableFacts
-mod TimeFacts

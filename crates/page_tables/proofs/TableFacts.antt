@@ -1,5 +1,5 @@
 -- Tables, one more cell or line written.
-use Rattle.std.proofs.Common.{◌≡◌, ℕ, suc, ◌+◌, ◌-◌, ◌<◌, ◌≤◌, List, [], ◌∷◌, ◌++◌, length, take, map, refl, sym, ap, ◌∙◌, arith, append_assoc, append-nil, Bor}
+use Rattle.std.proofs.Common.{◌≡◌, ℕ, Bool, suc, ◌+◌, ◌-◌, ◌<◌, ◌≤◌, List, [], ◌∷◌, ◌++◌, length, take, map, refl, sym, ap, ◌∙◌, arith, append_assoc, append-nil, Bor}
 use Rattle.std.proofs.lemmas.Grind.{flat_map-append}
 use Rattle.std.proofs.lemmas.List.{take_all}
 use Rattle.std.specs.List.{flat_map}
@@ -36,12 +36,12 @@ behind_of_texts f [] = refl
 behind_of_texts f (x ∷ xs) = ap (λ l. behind_comma (f x.now) ++ l) (behind_of_texts f xs)
 
 -- the lines of animals, and their names
-pub animals_table : (unit : Scale) (animals : List ReadAnimal)
-    → flat_map (λ animal. table (animal_lines unit (said animal))) animals ≡ table (flat_map (animal_lines unit) (map said animals))
-animals_table unit [] = refl
-animals_table unit (animal ∷ animals) =
-    ap (λ l. table (animal_lines unit (said animal)) ++ l) (animals_table unit animals)
-    ∙ sym (flat_map-append line (animal_lines unit (said animal)) (flat_map (animal_lines unit) (map said animals)))
+pub animals_table : (dated : Bool) (unit : Scale) (animals : List ReadAnimal)
+    → flat_map (λ animal. table (animal_lines dated unit (said animal))) animals ≡ table (flat_map (animal_lines dated unit) (map said animals))
+animals_table dated unit [] = refl
+animals_table dated unit (animal ∷ animals) =
+    ap (λ l. table (animal_lines dated unit (said animal)) ++ l) (animals_table dated unit animals)
+    ∙ sym (flat_map-append line (animal_lines dated unit (said animal)) (flat_map (animal_lines dated unit) (map said animals)))
 
 pub names_behind : (animals : List ReadAnimal)
     → flat_map (λ animal. behind_comma (name_cell animal.name.items)) animals ≡ behind (map (λ animal. name_cell animal.name) (map said animals))

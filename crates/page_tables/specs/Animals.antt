@@ -1,9 +1,10 @@
 -- The table `animals.csv`: a line for each animal, of its facts and of what its export had.
-use Rattle.std.specs.Prelude.{ℕ, ◌+◌, ◌-◌, ◌^◌, List, [], ◌∷◌, ◌++◌, codes, decimal, map, min, Option, Some, None, option_map}
+use Rattle.std.specs.Prelude.{ℕ, Bool, ◌+◌, ◌-◌, ◌^◌, List, [], ◌∷◌, ◌++◌, codes, decimal, map, min, Option, Some, None, option_map}
 use Rattle.std.specs.List.{slice_get}
 use Rattle.range_plane.specs.declared.scale.Scale.{Scale}
 use Rattle.range_stats.specs.declared.percents.PercentRow.{PercentRow}
 use Rattle.page_report.specs.Reading.{Read, Said}
+use Rattle.page_facts.specs.Dates.{are_dates}
 use Rattle.page_facts.specs.Facts.{at_level}
 use Rattle.page_facts.specs.declared.facts.Facts.{Facts}
 use Rattle.page_tables.specs.Lines.{behind, behind_comma, name_cell, table}
@@ -28,16 +29,16 @@ between None last = None
 between (Some first) None = None
 between (Some first) (Some last) = Some (last - first)
 
--- the cells of the fixes of an animal: days, and hours of intervals
-unfoldable pub fact_cells : Facts → List (List ℕ)
-fact_cells facts =
-    decimal facts.fixes ∷ time_cell facts.first ∷ time_cell facts.last ∷ share_cell (between facts.first facts.last) (Some 86400)
+-- the cells of the fixes of an animal, whose times may be dates: days, and hours of intervals
+unfoldable pub fact_cells : Bool → Facts → List (List ℕ)
+fact_cells dated facts =
+    decimal facts.fixes ∷ time_cell dated facts.first ∷ time_cell dated facts.last ∷ share_cell (between facts.first facts.last) (Some 86400)
     ∷ share_cell (option_map short facts.median2) (Some 7200) ∷ share_cell facts.longest (Some 3600) ∷ []
 
 -- those of how its area grew
-unfoldable pub growth_cells : Facts → List (List ℕ)
-growth_cells facts =
-    whole_cell facts.growth.within ∷ time_cell facts.within_second ∷ share_cell (Some (short facts.growth.tenth)) (Some (short facts.growth.area2))
+unfoldable pub growth_cells : Bool → Facts → List (List ℕ)
+growth_cells dated facts =
+    whole_cell facts.growth.within ∷ time_cell dated facts.within_second ∷ share_cell (Some (short facts.growth.tenth)) (Some (short facts.growth.area2))
     ∷ share_cell (Some (short facts.growth.quarter)) (Some (short facts.growth.area2)) ∷ []
 
 -- the area of an animal at a level, if it has one
@@ -61,24 +62,24 @@ abbrev pub levels : Read → List PercentRow
 levels report = levels_if (slice_get report.animals 0)
 
 -- the cells of an animal
-unfoldable pub told_cells : Read → ℕ → Told → List (List ℕ)
-told_cells report animal told =
+unfoldable pub told_cells : Read → Bool → ℕ → Told → List (List ℕ)
+told_cells report dated animal told =
     name_cell (name_if (slice_get report.animals animal)) ∷ whole_cell told.records
-    ∷ map decimal told.left.items ++ (fact_cells told.facts ++ (map (level_cell report animal) (levels report) ++ growth_cells told.facts))
+    ∷ map decimal told.left.items ++ (fact_cells dated told.facts ++ (map (level_cell report animal) (levels report) ++ growth_cells dated told.facts))
 
 -- its line in two parts
-abbrev pub told_first : Read → ℕ → Told → List ℕ
-told_first report animal told =
+abbrev pub told_first : Read → Bool → ℕ → Told → List ℕ
+told_first report dated animal told =
     name_cell (name_if (slice_get report.animals animal)) ++ behind_comma (whole_cell told.records) ++ behind (map decimal told.left.items)
-    ++ behind (fact_cells told.facts)
+    ++ behind (fact_cells dated told.facts)
 
-abbrev pub told_last : Read → ℕ → Told → List ℕ
-told_last report animal told = behind (map (level_cell report animal) (levels report)) ++ behind (growth_cells told.facts) ++ codes "\n"
+abbrev pub told_last : Read → Bool → ℕ → Told → List ℕ
+told_last report dated animal told = behind (map (level_cell report animal) (levels report)) ++ behind (growth_cells dated told.facts) ++ codes "\n"
 
 -- its lines, one for each animal that is told of, from one on
-unfoldable pub told_lines : Read → ℕ → List Told → List (List (List ℕ))
-told_lines report animal [] = []
-told_lines report animal (told ∷ others) = told_cells report animal told ∷ told_lines report (animal + 1) others
+unfoldable pub told_lines : Read → Bool → ℕ → List Told → List (List (List ℕ))
+told_lines report dated animal [] = []
+told_lines report dated animal (told ∷ others) = told_cells report dated animal told ∷ told_lines report dated (animal + 1) others
 
 -- titles of the reasons for which fixes are left out, and of levels
 abbrev pub reason_titles : List (List ℕ) → List (List ℕ)
@@ -108,4 +109,4 @@ titles_last report = behind (level_titles (levels report)) ++ behind growth_titl
 
 -- its text
 abbrev pub animals : Read → List (List ℕ) → List Told → List ℕ
-animals report reasons told = table (animal_titles report reasons ∷ told_lines report 0 told)
+animals report reasons told = table (animal_titles report reasons ∷ told_lines report (are_dates report) 0 told)

@@ -8,11 +8,11 @@ ghost use Rattle.page_tables.specs.Lines.{behind, behind_comma, joined, line, ta
 ghost use Rattle.page_tables.specs.Shares.{share_cell};
 
 use crate::cells::{push_behind_hectares, push_behind_time, push_behind_whole, wide};
-use crate::numbers::push_whole;
 use crate::overlaps::push_name_at;
 use crate::shares::push_share_cell;
-use page_facts::{Facts, at_level};
+use page_facts::{Facts, are_dates, at_level};
 use page_report::Report;
+use page_text::push_whole;
 use range_plane::Scale;
 use range_stats::PercentRow;
 use std::alloc::AllocError;
@@ -78,12 +78,12 @@ fn push_behind_share(text: &mut Vec<u8>, part: Option<u64>, whole: u64) -> Resul
 
 // Appends the cells of the fixes of an animal.
 #[tactic(auto, unfolding(crate::specs::Animals::fact_cells))]
-fn push_fact_cells(text: &mut Vec<u8>, facts: &Facts) -> Result<(), AllocError>
-    ensures { OnOk result (text.new.items ≡ text.old.items ++ behind (fact_cells facts.now)) }
+fn push_fact_cells(text: &mut Vec<u8>, dated: bool, facts: &Facts) -> Result<(), AllocError>
+    ensures { OnOk result (text.new.items ≡ text.old.items ++ behind (fact_cells dated facts.now)) }
 {
     push_behind_whole(text, facts.fixes as u128)?;
-    push_behind_time(text, facts.first)?;
-    push_behind_time(text, facts.last)?;
+    push_behind_time(text, dated, facts.first)?;
+    push_behind_time(text, dated, facts.last)?;
     push_behind_share(text, between(facts.first, facts.last), 86_400)?;
     push_behind_share(text, short_if(facts.median2), 7_200)?;
     push_behind_share(text, facts.longest, 3_600)
@@ -91,12 +91,12 @@ fn push_fact_cells(text: &mut Vec<u8>, facts: &Facts) -> Result<(), AllocError>
 
 // Appends the cells of how an area grew.
 #[tactic(auto, unfolding(crate::specs::Animals::growth_cells))]
-fn push_growth_cells(text: &mut Vec<u8>, facts: &Facts) -> Result<(), AllocError>
-    ensures { OnOk result (text.new.items ≡ text.old.items ++ behind (growth_cells facts.now)) }
+fn push_growth_cells(text: &mut Vec<u8>, dated: bool, facts: &Facts) -> Result<(), AllocError>
+    ensures { OnOk result (text.new.items ≡ text.old.items ++ behind (growth_cells dated facts.now)) }
 {
     let area2 = short(facts.growth.area2);
     push_behind_known(text, wide(facts.growth.within))?;
-    push_behind_time(text, facts.within_second)?;
+    push_behind_time(text, dated, facts.within_second)?;
     push_behind_share(text, Some(short(facts.growth.tenth)), area2)?;
     push_behind_share(text, Some(short(facts.growth.quarter)), area2)
 }
@@ -177,28 +177,30 @@ fn push_left_cells(text: &mut Vec<u8>, left: &[u64]) -> Result<(), AllocError>
 fn push_first(
     text: &mut Vec<u8>,
     report: &Report,
+    dated: bool,
     animal: usize,
     told: &Told,
 ) -> Result<(), AllocError>
-    ensures { OnOk result (text.new.items ≡ text.old.items ++ told_first (read report.now) animal told.now) }
+    ensures { OnOk result (text.new.items ≡ text.old.items ++ told_first (read report.now) dated animal told.now) }
 {
     push_name_at(text, report, animal)?;
     push_behind_known(text, told.records)?;
     push_left_cells(text, &told.left)?;
-    push_fact_cells(text, &told.facts)
+    push_fact_cells(text, dated, &told.facts)
 }
 
 // Appends the rest of the line of an animal.
 fn push_last(
     text: &mut Vec<u8>,
     report: &Report,
+    dated: bool,
     animal: usize,
     told: &Told,
 ) -> Result<(), AllocError>
-    ensures { OnOk result (text.new.items ≡ text.old.items ++ told_last (read report.now) animal told.now) }
+    ensures { OnOk result (text.new.items ≡ text.old.items ++ told_last (read report.now) dated animal told.now) }
 {
     push_level_cells(text, report, animal, levels_of(report))?;
-    push_growth_cells(text, &told.facts)?;
+    push_growth_cells(text, dated, &told.facts)?;
     text.extend_from_slice(b"\n")
 }
 
@@ -206,13 +208,14 @@ fn push_last(
 fn push_line(
     text: &mut Vec<u8>,
     report: &Report,
+    dated: bool,
     animal: usize,
     told: &Told,
 ) -> Result<(), AllocError>
-    ensures { OnOk result (text.new.items ≡ text.old.items ++ line (told_cells (read report.now) animal told.now)) }
+    ensures { OnOk result (text.new.items ≡ text.old.items ++ line (told_cells (read report.now) dated animal told.now)) }
 {
-    push_first(text, report, animal, told)?;
-    push_last(text, report, animal, told)
+    push_first(text, report, dated, animal, told)?;
+    push_last(text, report, dated, animal, told)
 }
 
 // Appends the titles of reasons, behind others.
@@ -284,9 +287,10 @@ pub fn push_animals(
 ) -> Result<(), AllocError>
     ensures { OnOk result (text.new.items ≡ text.old.items ++ animals (read report.now) (map (λ reason. reason.now) reasons.now) told.now) }
 {
+    let dated = are_dates(report);
     push_titles(text, report, reasons)?;
     for (animal, own) in told.iter().enumerate() {
-        push_line(text, report, animal, own)?;
+        push_line(text, report, dated, animal, own)?;
     }
     Ok(())
 }

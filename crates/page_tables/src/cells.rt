@@ -5,9 +5,9 @@ ghost use Rattle.page_tables.specs.Lines.{behind_comma, name_cell};
 ghost use Rattle.page_tables.specs.Numbers.{hectares};
 ghost use Rattle.page_tables.specs.Times.{time_cell};
 
-use crate::numbers::{push_hectares, push_whole};
+use crate::numbers::push_hectares;
 use crate::times::push_time_cell;
-use page_text::push_cell;
+use page_text::{push_cell, push_whole};
 use range_plane::Scale;
 use std::alloc::AllocError;
 
@@ -38,11 +38,15 @@ pub(crate) fn push_behind_whole(text: &mut Vec<u8>, number: u128) -> Result<(), 
 }
 
 /// Appends the cell of a time behind others.
-pub(crate) fn push_behind_time(text: &mut Vec<u8>, second: Option<u64>) -> Result<(), AllocError>
-    ensures { OnOk result (text.new.items ≡ text.old.items ++ behind_comma (time_cell second)) }
+pub(crate) fn push_behind_time(
+    text: &mut Vec<u8>,
+    dated: bool,
+    second: Option<u64>,
+) -> Result<(), AllocError>
+    ensures { OnOk result (text.new.items ≡ text.old.items ++ behind_comma (time_cell dated second)) }
 {
     text.extend_from_slice(b",")?;
-    push_time_cell(text, second)
+    push_time_cell(text, dated, second)
 }
 
 /// Appends the cell of a doubled area behind others.

@@ -12,6 +12,6 @@ mod summary;
 mod times;
 
 pub use animals::{Told, push_animals};
-pub use laws::{days_are_of_the_calendar, hectares_are_exact};
+pub use laws::hectares_are_exact;
 pub use overlaps::push_overlaps;
 pub use summary::push_summary;

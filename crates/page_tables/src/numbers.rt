@@ -1,28 +1,13 @@
 // Numbers as tables have them.
 
 ghost use Rattle.std.specs.Prelude.{◌≡◌, ◌+◌, ◌*◌, ◌<◌, ◌≤◌, ◌++◌, ◌^◌, OnOk, decimal};
-ghost use Rattle.page_text.specs.Figures.{digit, hectare};
+ghost use Rattle.page_text.specs.Figures.{hectare};
 ghost use Rattle.page_tables.specs.Numbers.{has_zero, hectares, in_powers, is_small, number, padded, places_of, pointed, small, trimmed};
 
 use itoa::Buffer;
+use page_text::{hectare, push_digit, push_whole};
 use range_plane::Scale;
 use std::alloc::AllocError;
-
-/// Appends a whole number.
-pub(crate) fn push_whole(text: &mut Vec<u8>, number: u128) -> Result<(), AllocError>
-    ensures { OnOk result (text.new.items ≡ text.old.items ++ decimal number) }
-{
-    let mut buffer = Buffer::new();
-    text.extend_from_slice(buffer.format(number).as_bytes())
-}
-
-// Appends a digit.
-fn push_digit(text: &mut Vec<u8>, number: u8) -> Result<(), AllocError>
-    requires { number < 10 }
-    ensures { OnOk result (text.new.items ≡ text.old.items ++ digit number) }
-{
-    text.extend_from_slice(&[b'0' + number])
-}
 
 /// Appends the last digits of a number, so many.
 pub(crate) fn push_padded(text: &mut Vec<u8>, places: u8, number: u64) -> Result<(), AllocError>
@@ -91,6 +76,7 @@ fn push_small(text: &mut Vec<u8>, places: u8, number: u64) -> Result<(), AllocEr
     }
     push_in_powers(text, places, number)
 }
+
 // Whether so many decimals are below a ten thousandth, and not nothing.
 fn is_small(places: u8, decimals: u64) -> bool
     requires places { places < 9 }
@@ -117,18 +103,6 @@ pub(crate) fn push_number(
     push_whole(text, whole)?;
     text.extend_from_slice(b".")?;
     push_trimmed(text, places, decimals)
-}
-
-// How much doubled area a hectare has.
-fn hectare(unit: Scale) -> u128
-    ensures value { result ≡ hectare unit }
-    ensures some { 0 < result }
-    ensures most { result ≤ 2_000_000 }
-{
-    match unit {
-        Scale::Metre => 20_000,
-        Scale::Decimetre => 2_000_000,
-    }
 }
 
 // How many decimals hectares have.

@@ -62,8 +62,8 @@ pub fn push_three_digits(text: &mut Vec<u8>, part: u128, whole: u128) -> Result<
     push_fixed(text, part, whole, three_places(part, whole))
 }
 
-// How much doubled area a hectare has.
-fn hectare(unit: Scale) -> u128
+/// How much doubled area a hectare has.
+pub fn hectare(unit: Scale) -> u128
     ensures value { result ≡ hectare unit }
     ensures some { 0 < result }
     ensures most { result ≤ 2_000_000 }

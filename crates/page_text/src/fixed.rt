@@ -1,6 +1,6 @@
 // Quotients as they are written.
 
-ghost use Rattle.std.specs.Prelude.{◌≡◌, ◌++◌, ◌+◌, ◌*◌, ◌<◌, ◌^◌, OnOk, length};
+ghost use Rattle.std.specs.Prelude.{◌≡◌, ◌++◌, ◌+◌, ◌*◌, ◌<◌, ◌^◌, OnOk, decimal, length};
 ghost use Rattle.page_text.specs.Figures.{comma_before, decimals, digit, fixed, grouped, grouped_behind, placed, power, rounded};
 
 use crate::bytes::push;
@@ -70,8 +70,24 @@ fn push_grouped(text: &mut Vec<u8>, number: u128) -> Result<(), AllocError>
     }
 }
 
-// Appends a digit.
-fn push_digit(text: &mut Vec<u8>, number: u8) -> Result<(), AllocError>
+/// Appends a whole number.
+///
+/// # Errors
+///
+/// Memory ran out.
+pub fn push_whole(text: &mut Vec<u8>, number: u128) -> Result<(), AllocError>
+    ensures { OnOk result (text.new.items ≡ text.old.items ++ decimal number) }
+{
+    let mut buffer = Buffer::new();
+    text.extend_from_slice(buffer.format(number).as_bytes())
+}
+
+/// Appends a digit.
+///
+/// # Errors
+///
+/// Memory ran out.
+pub fn push_digit(text: &mut Vec<u8>, number: u8) -> Result<(), AllocError>
     requires { number < 10 }
     ensures { OnOk result (text.new.items ≡ text.old.items ++ digit number) }
 {

@@ -12,13 +12,13 @@ mod times;
 
 pub use cells::push_cell;
 pub use figures::{
-    push_count_with_share, push_fixes, push_hectares, push_share_of_area, push_share_of_fixes,
-    push_three_digits, push_with_sign,
+    hectare, push_count_with_share, push_fixes, push_hectares, push_share_of_area,
+    push_share_of_fixes, push_three_digits, push_with_sign,
 };
-pub use fixed::{Places, push_fixed};
+pub use fixed::{Places, push_digit, push_fixed, push_whole};
 pub use laws::{
     attributes_are_read_back, cells_are_read_back, rounded_is_nearest, shown_text_is_harmless,
 };
-pub use listed::push_listed;
+pub use listed::{between, push_listed};
 pub use shown::{push_attribute, push_escaped, push_named};
 pub use times::{push_days, push_interval};

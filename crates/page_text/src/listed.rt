@@ -6,8 +6,8 @@ ghost use Rattle.page_text.specs.Figures.{between, listed};
 use crate::bytes::push;
 use std::alloc::AllocError;
 
-// What stands between a word and so many behind it.
-fn between(left: usize) -> &'static str
+/// What stands between a word and so many behind it: commas, and 'and' before the last.
+pub fn between(left: usize) -> &'static str
     ensures { result.now ≡ between left }
 {
     match left {

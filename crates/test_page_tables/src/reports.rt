@@ -271,14 +271,49 @@ pub(crate) const SECONDS: Case = Case {
     overlap,owl,fox,1,3\n\
     end,2\n",
     summary: "animal,first,last,fixes,level,kept,corners,hectares\n\
-    fox,1970-01-01T00:00:00Z,2262-04-11T23:47:15Z,4,100,4,4,12.0\n\
-    owl,1970-01-01T00:00:05Z,,3,100,3,3,28.0\n",
+    fox,0,9223372035,4,100,4,4,12.0\n\
+    owl,5,1099511627776,3,100,3,3,28.0\n",
     overlaps: "fixes_of,fox,owl\n\
     fox,1.0,0.25\n\
     owl,0.3333,1.0\n",
     animals: "animal,records,used,first,last,days,median_hours,longest_hours,hectares_100,within_95_fix,within_95_time,last_tenth,last_quarter\n\
-    fox,,4,1970-01-01T00:00:00Z,2262-04-11T23:47:15Z,106751.9911,216.0003,2561807.7872,12.0,4,2262-04-11T23:47:15Z,0.5,0.5\n\
-    owl,,3,1970-01-01T00:00:05Z,,12725829.0251,152709948.3015,302857848.8167,28.0,3,,1.0,1.0\n",
+    fox,,4,0,9223372035,106751.9911,216.0003,2561807.7872,12.0,4,9223372035,0.5,0.5\n\
+    owl,,3,5,1099511627776,12725829.0251,152709948.3015,302857848.8167,28.0,3,1099511627776,1.0,1.0\n",
+};
+
+pub(crate) const DATES: Case = Case {
+    report: "animal,fox,fixes,4\n\
+    box,fox,0,0,400,300\n\
+    row,fox,1,100000000,1,0\n\
+    row,fox,2,100086400,2,0\n\
+    row,fox,3,951782400,3,120000\n\
+    row,fox,4,9223372035,4,240000\n\
+    corner,fox,1,0,0\n\
+    corner,fox,2,400,0\n\
+    corner,fox,3,400,300\n\
+    corner,fox,4,0,300\n\
+    percent,fox,100,4,4,240000\n\
+    animal,owl,fixes,3\n\
+    box,owl,200,0,900,900\n\
+    row,owl,1,1709164800,1,0\n\
+    row,owl,2,4107542400,2,0\n\
+    row,owl,3,9223372035,3,560000\n\
+    corner,owl,1,200,100\n\
+    corner,owl,2,900,0\n\
+    corner,owl,3,200,900\n\
+    percent,owl,100,3,3,560000\n\
+    overlap,fox,owl,1,4\n\
+    overlap,owl,fox,1,3\n\
+    end,2\n",
+    summary: "animal,first,last,fixes,level,kept,corners,hectares\n\
+    fox,1973-03-03T09:46:40Z,2262-04-11T23:47:15Z,4,100,4,4,12.0\n\
+    owl,2024-02-29T00:00:00Z,2262-04-11T23:47:15Z,3,100,3,3,28.0\n",
+    overlaps: "fixes_of,fox,owl\n\
+    fox,1.0,0.25\n\
+    owl,0.3333,1.0\n",
+    animals: "animal,records,used,first,last,days,median_hours,longest_hours,hectares_100,within_95_fix,within_95_time,last_tenth,last_quarter\n\
+    fox,,4,1973-03-03T09:46:40Z,2262-04-11T23:47:15Z,105594.5837,236582.2222,2297663.7875,12.0,4,2262-04-11T23:47:15Z,0.5,0.5\n\
+    owl,,3,2024-02-29T00:00:00Z,2262-04-11T23:47:15Z,86969.9911,1043639.8938,1421063.7875,28.0,3,2262-04-11T23:47:15Z,1.0,1.0\n",
 };
 
 pub(crate) const QUOTED: Case = Case {
@@ -289,9 +324,9 @@ pub(crate) const QUOTED: Case = Case {
     percent,a\"b,50,1,1,0\n\
     end,1\n",
     summary: "animal,first,last,fixes,level,kept,corners,hectares\n\
-    \"a\"\"b\",1970-01-01T00:00:00Z,1970-01-01T00:00:00Z,1,50,1,1,0.0\n",
+    \"a\"\"b\",0,0,1,50,1,1,0.0\n",
     overlaps: "fixes_of,\"a\"\"b\"\n\
     \"a\"\"b\",1.0\n",
     animals: "animal,records,used,first,last,days,median_hours,longest_hours,hectares_50,within_95_fix,within_95_time,last_tenth,last_quarter\n\
-    \"a\"\"b\",,1,1970-01-01T00:00:00Z,1970-01-01T00:00:00Z,0.0,,,0.0,,,,\n",
+    \"a\"\"b\",,1,0,0,0.0,,,0.0,,,,\n",
 };

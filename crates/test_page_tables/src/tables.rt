@@ -1,12 +1,14 @@
 // Tests of tables. What is expected was written by the makers in Python, as `reports.rt` says.
 
-use crate::reports::{Case, DECIMETRES, NAMES, NO_AREA, ONE, ONE_FIX, QUOTED, SECONDS, TWO};
+use crate::reports::{Case, DATES, DECIMETRES, NAMES, NO_AREA, ONE, ONE_FIX, QUOTED, SECONDS, TWO};
 use page_facts::{Facts, Growth, facts_of};
 use page_report::{ReadFault, Report, read_report};
 use page_tables::{Told, push_animals, push_overlaps, push_summary};
 use std::alloc::{AllocError, Global};
 
-const CASES: [Case; 7] = [ONE, NAMES, ONE_FIX, NO_AREA, DECIMETRES, SECONDS, QUOTED];
+const CASES: [Case; 8] = [
+    ONE, NAMES, ONE_FIX, NO_AREA, DECIMETRES, SECONDS, DATES, QUOTED,
+];
 
 // The table of levels.
 fn summary(alloc: Global, report: &Report) -> Result<Vec<u8>, AllocError> {

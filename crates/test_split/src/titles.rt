@@ -101,7 +101,7 @@ fn exact_titles_go_first(rt: HostRuntime) -> Result<(), Fail> {
         &[
             ("X,id,date,x,y", "animal 1; time 2; metres 3 4; unread 0"),
             ("X,id,date,y", "animal 1; time 2; metres 0 3"),
-            ("ID,id,date,x,y", "animal 1; time 2; metres 3 4; unread 0"),
+            ("ID,id,date,x,y", "animal 1; time 2; metres 3 4; others 0"),
             (
                 "id,date,X,Y,x,y",
                 "animal 0; time 1; metres 4 5; unread 2 3",
@@ -112,11 +112,11 @@ fn exact_titles_go_first(rt: HostRuntime) -> Result<(), Fail> {
             ),
             (
                 "id,Date,DATE,date,x,y",
-                "animal 0; time 3; metres 4 5; unread 1 2",
+                "ambiguous: column 2 'Date' and column 4 'date' both fit date: rename one",
             ),
             (
                 "animal,second,easting,northing,Use,use,USE",
-                "animal 0; time 1; second; metres 2 3; own; use 5; unread 4 6",
+                "ambiguous: column 5 'Use' and column 6 'use' both fit use: rename one",
             ),
             (
                 " X ,id,date, x ,y",
@@ -341,7 +341,7 @@ fn other_usual_titles_of_the_animal_are_listed(rt: HostRuntime) -> Result<(), Fa
             ),
             (
                 "id,ID,Individual.ID,animals-id,date,x,y",
-                "animal 0; time 4; metres 5 6; others 2 3; unread 1",
+                "animal 0; time 4; metres 5 6; others 1 2 3",
             ),
         ],
     )

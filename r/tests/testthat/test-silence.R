@@ -56,7 +56,7 @@ test_that("arguments that are none are refused by this package", {
   refused(homerange_evidence(ranges, file.path(folder, "a"), title = 1), "title = 1 is no text")
   refused(write_page(ranges, file.path(folder, "a.html"), made = "today"), "made = \"today\" is no date")
   refused(write_page(ranges, "/proc/page.html"), "/proc/page.html: ", "file")
-  refused(read_report(folder), "there is no such file", "file")
+  refused(read_report(folder), "is a folder, and a file is wanted", "file")
   refused(names(ranges) <- "b", "ranges have the names of their animals")
   refused(plot(ranges, animals = 5), "animals = 5 are no names")
   refused(plot(ranges, col = "nocolour"), "col: \"nocolour\" is no colour")

@@ -16,13 +16,12 @@ from homerange_verifier.lines import Percent
 
 from .facts import HECTARE, PER_METRE, Animal
 from .records import Run
-from .tables import moment
+from .tables import are_dates, moment
 
 Place = tuple[float, float]
 # A time with thousandths of a second, which some versions of GDAL leave out.
 FIRST, LAST, TIME = (f"CASE typeof({title}) WHEN 'integer' THEN {title} ELSE strftime('%Y-%m-%dT%H:%M:%fZ', {title}) END"
                      for title in ("first", "last", "time"))
-DATES = range(10 ** 8, 9_223_372_036)  # seconds that have one: where others are among them, all are whole numbers
 COLUMNS = {"ranges": f"geom, animal, level, fixes, kept, corners, hectares, {FIRST}, {LAST}, unit",
            "fixes": f"geom, animal, n, {TIME}"}
 ENVELOPES = {0: 0, 1: 4}  # how many numbers the box of a shape has, by its kind
@@ -104,7 +103,7 @@ class Layers:
 
     def time_of(self, second: int) -> int | str:
         """A time as a GeoPackage has it, or the second where not all have a date."""
-        if not all(end in DATES for animal in self.animals for end in (animal.first, animal.last)):
+        if not are_dates(self.animals):
             return second
         return f"{moment(second)[:-1]}.000Z"
 

@@ -22,11 +22,14 @@ def are_dates(animals: Sequence[Animal]) -> bool:
     return all(second in DATES for animal in animals for second in animal.seconds)
 
 
-def moment(second: int | None, dated: bool) -> str | int:
-    """A time of UTC, or a second."""
-    if second is None:
-        return ""
-    return (datetime(1970, 1, 1) + timedelta(seconds=second)).strftime("%Y-%m-%dT%H:%M:%SZ") if dated else second
+def moment(second: int) -> str:
+    """A time of UTC."""
+    return (datetime(1970, 1, 1) + timedelta(seconds=second)).strftime("%Y-%m-%dT%H:%M:%SZ")
+
+
+def time_of(second: int | None, dated: bool) -> str | int:
+    """What a cell has of a second: a time where it is a date."""
+    return "" if second is None else moment(second) if dated else second
 
 
 def rounded(part: int | None, whole: int) -> float | str:
@@ -41,7 +44,7 @@ def summary(animals: Sequence[Animal], levels: Sequence[int], unit: str) -> Rows
     for animal in animals:
         for level in levels:
             kept, hull = animal.percents[level]
-            yield (animal.name, moment(animal.first, dated), moment(animal.last, dated), animal.used, level, kept, len(hull),
+            yield (animal.name, time_of(animal.first, dated), time_of(animal.last, dated), animal.used, level, kept, len(hull),
                    hull.area2 / HECTARE[unit])
 
 
@@ -54,10 +57,10 @@ def overview(animals: Sequence[Animal], levels: Sequence[int], unit: str) -> Row
     for animal in animals:
         within = animal.within
         yield (animal.name, animal.records, *(animal.left.get(reason, 0) for reason in reasons), animal.used,
-               moment(animal.first, dated), moment(animal.last, dated), rounded(animal.last - animal.first, 86_400),
+               time_of(animal.first, dated), time_of(animal.last, dated), rounded(animal.last - animal.first, 86_400),
                rounded(animal.median2, 7200), rounded(animal.intervals[-1] if animal.intervals else None, 3600),
                *(animal.percents[level].hull.area2 / HECTARE[unit] for level in levels),
-               within or "", moment(within and animal.seconds[within - 1], dated),
+               within or "", time_of(within and animal.seconds[within - 1], dated),
                rounded(animal.tenth, animal.area2), rounded(animal.quarter, animal.area2))
 
 

@@ -1,4 +1,4 @@
-use Rattle.std.proofs.Common.{◌≡◌, ◌≤◌, ◌*◌, ◌^◌, map, option_map, take}
+use Rattle.std.proofs.Common.{◌≡◌, ◌≤◌, ◌*◌, ◌^◌, None, map, take}
 use Rattle.std.specs.List.{sum_by}
 use Rattle.page_record.specs.Counts.{left_by}
 use Rattle.page_record.specs.Reading.{left_seen}
@@ -6,6 +6,6 @@ use Rattle.page_record.proofs.counts.sum_left.Given as goal
 
 abbrev pub invariant-loop-left : goal.invariant-loop-left
 invariant-loop-left l = record {
-  sum : l.sum ≡ sum_by (left_by (option_map (λ animal. animal.now) l.fn.animal) l.fn.reason) (map left_seen (take l.left-index l.lines));
+  sum : l.sum ≡ sum_by (left_by None l.reason) (map left_seen (take l.left-index l.lines));
   small : l.sum ≤ l.left-index * 2 ^ 32;
 }

@@ -8,8 +8,8 @@ pub returns : goal.returns
 returns c =
     let report = read c.args.report.now in
     let text = c.args.text.now.items in
-    let first = told_first report c.args.animal c.args.told.now in
-    let last = told_last report c.args.animal c.args.told.now in
+    let first = told_first report c.args.dated c.args.animal c.args.told.now in
+    let last = told_last report c.args.dated c.args.animal c.args.told.now in
     subst (λ l. OnOk c.push_last.result (c.push_last.new.text.items ≡ l))
-    (ap (λ l. l ++ last) c.in_ok-push_first.ensures ∙ append_assoc text first last ∙ ap (λ l. text ++ l) (told_line report c.args.animal c.args.told.now))
+    (ap (λ l. l ++ last) c.in_ok-push_first.ensures ∙ append_assoc text first last ∙ ap (λ l. text ++ l) (told_line report c.args.dated c.args.animal c.args.told.now))
     c.push_last.ensures

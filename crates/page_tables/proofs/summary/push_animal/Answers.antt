@@ -8,7 +8,7 @@ use Rattle.page_tables.proofs.summary.push_animal.Goals as goal
 
 pub returns : goal.returns
 returns c =
-    let cells = λ (percent : PercentRow). summary_cells c.args.unit (said c.args.animal.now) percent in
+    let cells = λ (percent : PercentRow). summary_cells c.args.dated c.args.unit (said c.args.animal.now) percent in
     let percents = c.args.animal.now.percents.items in
     let ended : length percents ≤ c.loop-percent.percent-index = omega (arith, ap length c.deref-percent-items.ensures.value) in
     c.loop-percent.invariant

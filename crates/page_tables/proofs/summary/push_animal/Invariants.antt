@@ -6,4 +6,4 @@ use Rattle.page_tables.proofs.summary.push_animal.Given as goal
 
 abbrev pub invariant-loop-percent : goal.invariant-loop-percent
 invariant-loop-percent l =
-    l.text.items ≡ l.initial.text.items ++ flat_map (λ percent. line (summary_cells l.unit (said l.animal) percent)) (take l.percent-index l.animal.percents.items)
+    l.text.items ≡ l.initial.text.items ++ flat_map (λ percent. line (summary_cells l.dated l.unit (said l.animal) percent)) (take l.percent-index l.animal.percents.items)

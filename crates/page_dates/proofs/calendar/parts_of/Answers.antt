@@ -1,6 +1,6 @@
 use Rattle.std.proofs.Common.{◌≡◌, ◌∙◌, rules, unsigned_abs}
-use Rattle.page_tables.proofs.TimeFacts.{same_day}
-use Rattle.page_tables.proofs.times.parts_of.Goals as goal
+use Rattle.page_dates.proofs.CalendarFacts.{same_day}
+use Rattle.page_dates.proofs.calendar.parts_of.Goals as goal
 
 pub returns : goal.returns
 returns c =

@@ -7,7 +7,8 @@ use Rattle.jiff_core.specs.declared.civil.date.Date.{Date}
 use Rattle.jiff_core.proofs.SignedLemmas.{signed_arith}
 use Rattle.jiff_core.proofs.CalendarLemmas.{days_in_month_bounds}
 use Rattle.jiff_core.proofs.DateLemmas.{epoch_day_injective, days_from_civil-day, days_from_civil-next_month, days_from_civil-next_year}
-use Rattle.page_tables.specs.Times.{day_after, next_day}
+use Rattle.page_dates.specs.Calendar.{day_after, next_day}
+use Rattle.page_dates.specs.Laws.{DaysAreOfTheCalendar}
 
 -- a date of the calendar from 1970 on, and its day; each month has 28 days at least, so the year is not too late
 pub record IsDay (date : ℕ × ℕ × ℕ) (day : ℕ) : Type 0 where
@@ -86,3 +87,8 @@ same_day date day within is =
     } in
     let same = epoch_day_injective date counted (is ∙ sym has.is) in
     (ap unsigned_abs same.0, same.1, same.2)
+
+pub calendar : DaysAreOfTheCalendar
+calendar day =
+    let own = is_day day in
+    (own.month_in.0, own.month_in.1, own.day_in.0, own.day_in.1, own.is)

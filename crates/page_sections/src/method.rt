@@ -1,0 +1,262 @@
+// The method as it may stand in a report, what was left out, and what was said when fixes were read.
+
+use crate::cells::push_count;
+use crate::reasons::phrase;
+use crate::shown::{Shown, Source, levels_of, source_words};
+use memchr::memmem;
+use page_record::{Given, Record};
+use page_text::{between, push_escaped, push_fixes};
+use range_plane::Scale;
+use range_stats::PercentRow;
+use split_tracks::Reason;
+use std::alloc::{AllocError, Global};
+
+// How many lines that were said the page quotes.
+const MOST_SAID: usize = 12;
+
+/// How many fixes were left out of all records, by reasons.
+#[derive(Clone, Copy)]
+pub struct Totals<'a> {
+    /// How many records the export or the table had.
+    pub records: u64,
+    pub left: &'a [(Reason, u64)],
+}
+
+// The name of a unit.
+fn unit_words(unit: Scale) -> &'static [u8] {
+    match unit {
+        Scale::Metre => b"metres",
+        Scale::Decimetre => b"decimetres",
+    }
+}
+
+// Levels from the highest on.
+fn falling(alloc: Global, levels: &[PercentRow]) -> Result<Vec<u8>, AllocError> {
+    let mut found = Vec::new(alloc);
+    for own in levels {
+        found.push(u8::MAX - own.level)?;
+    }
+    found.sort()?;
+    Ok(found)
+}
+
+// Appends the levels, from the highest on.
+fn push_levels(alloc: Global, text: &mut Vec<u8>, levels: &[PercentRow]) -> Result<(), AllocError> {
+    let falling = falling(alloc, levels)?;
+    for (place, own) in falling.iter().enumerate() {
+        push_count(text, u64::from(u8::MAX - *own))?;
+        text.extend_from_slice(b" %")?;
+        text.extend_from_slice(between(falling.len() - place - 1).as_bytes())?;
+    }
+    Ok(())
+}
+
+// Appends what program computed ranges, and of what coordinates.
+fn push_program(
+    text: &mut Vec<u8>,
+    version: &[u8],
+    unit: Scale,
+    system: &[u8],
+) -> Result<(), AllocError> {
+    text.extend_from_slice(b" of the fixes, computed by ")?;
+    push_escaped(text, version)?;
+    text.extend_from_slice(b" from coordinates in whole ")?;
+    text.extend_from_slice(unit_words(unit))?;
+    text.extend_from_slice(b", ")?;
+    push_escaped(text, system)?;
+    text.extend_from_slice(b". ")
+}
+
+// How ranges were made, whatever the animals.
+const RULE: &[u8] =
+    b"Of n fixes, the polygon at p % has the p per cent of n, rounded up to whole fixes, that lie nearest to the arithmetic mean of all \
+    (of fixes as near, the earlier). Areas are those on the grid. Here they are rounded, halves up, to whole hectares, below 100 \
+    hectares to three digits, and below 1 hectare they are in square metres. The area of the 100 % polygon was followed fix by fix \
+    (incremental area analysis, Harris et al. 1990): &#8216;last quarter&#8217; is by how much it grew over the last quarter of the \
+    fixes, as a share of the final area, and &#8216;95 % since&#8217; is the first fix from which on it stayed at 95 % or more of the \
+    final one.";
+
+/// Appends how ranges were made, by a program of this version, of coordinates of this reference system.
+///
+/// # Errors
+///
+/// Memory ran out.
+pub fn push_method(
+    alloc: Global,
+    text: &mut Vec<u8>,
+    shown: &Shown,
+    version: &[u8],
+    system: &[u8],
+) -> Result<(), AllocError> {
+    text.extend_from_slice(b"Home ranges are minimum convex polygons (MCP; Mohr 1947) of ")?;
+    push_levels(alloc, text, levels_of(shown.report))?;
+    push_program(text, version, shown.report.unit, system)?;
+    text.extend_from_slice(RULE)
+}
+
+// How many fixes were left out.
+fn gone(totals: &Totals) -> u64 {
+    let mut gone: u64 = 0;
+    for (_reason, count) in totals.left {
+        gone = gone.saturating_add(*count);
+    }
+    gone
+}
+
+// How many reasons occur.
+fn reasons_that_occur(totals: &Totals) -> usize {
+    totals.left.iter().filter(|own| own.1 > 0).count()
+}
+
+// Appends how many fixes were left out for each reason.
+fn push_reasons(text: &mut Vec<u8>, totals: &Totals) -> Result<(), AllocError> {
+    let mut left = reasons_that_occur(totals);
+    for (reason, count) in totals.left {
+        if *count > 0 {
+            left = left.saturating_sub(1);
+            push_count(text, *count)?;
+            text.extend_from_slice(b" ")?;
+            text.extend_from_slice(phrase(*reason))?;
+            text.extend_from_slice(between(left).as_bytes())?;
+        }
+    }
+    text.extend_from_slice(b".")
+}
+
+// Appends that no fix was left out.
+fn push_nothing_left(text: &mut Vec<u8>, source: Source, records: u64) -> Result<(), AllocError> {
+    text.extend_from_slice(b"No fix of the ")?;
+    text.extend_from_slice(source_words(source))?;
+    text.extend_from_slice(b" was left out (")?;
+    push_fixes(text, records)?;
+    text.extend_from_slice(b").")
+}
+
+/// Appends what was left out of all fixes of the export or the table.
+///
+/// # Errors
+///
+/// Memory ran out.
+pub fn push_left_out(
+    text: &mut Vec<u8>,
+    source: Source,
+    totals: &Totals,
+) -> Result<(), AllocError> {
+    let gone = gone(totals);
+    if gone == 0 {
+        return push_nothing_left(text, source, totals.records);
+    }
+    text.extend_from_slice(b"Of ")?;
+    push_count(text, totals.records)?;
+    text.extend_from_slice(b" fixes of the ")?;
+    text.extend_from_slice(source_words(source))?;
+    text.extend_from_slice(b" ")?;
+    push_count(text, gone)?;
+    text.extend_from_slice(b" were left out: ")?;
+    push_reasons(text, totals)
+}
+
+// Whether words stand in a line.
+fn has(line: &[u8], words: &[u8]) -> bool {
+    memmem::find(line, words).is_some()
+}
+
+// Whether a line is on one animal, on columns or on files, which the page has elsewhere or not at all.
+fn is_passed(line: &[u8]) -> bool {
+    has(line, b"records of ")
+        || has(line, b"columns: ")
+        || has(line, b"not read: ")
+        || has(line, b" animals are in ")
+}
+
+// Appends a line that was said, in quotes.
+fn push_line(text: &mut Vec<u8>, line: &[u8]) -> Result<(), AllocError> {
+    text.extend_from_slice(b"\xE2\x80\x9C")?;
+    push_escaped(text, line)?;
+    text.extend_from_slice(b"\xE2\x80\x9D")
+}
+
+// Appends how many lines more there are.
+fn push_more(text: &mut Vec<u8>, more: usize) -> Result<(), AllocError> {
+    if more == 0 {
+        return Ok(());
+    }
+    text.extend_from_slice(b"; and ")?;
+    push_count(text, more as u64)?;
+    let words: &[u8] = if more == 1 {
+        b" line more"
+    } else {
+        b" lines more"
+    };
+    text.extend_from_slice(words)
+}
+
+// Appends the first lines, and how many more there are.
+fn push_lines(text: &mut Vec<u8>, lines: &[Vec<u8>]) -> Result<(), AllocError> {
+    let mut quoted: usize = 0;
+    let mut more: usize = 0;
+    for line in lines {
+        if is_passed(line) {
+            continue;
+        }
+        if quoted < MOST_SAID {
+            let before: &[u8] = if quoted == 0 { b"" } else { b"; " };
+            text.extend_from_slice(before)?;
+            push_line(text, line)?;
+            quoted = quoted.saturating_add(1);
+        } else {
+            more = more.saturating_add(1);
+        }
+    }
+    push_more(text, more)
+}
+
+/// Appends what was said when fixes were read, but for lines on one animal, on columns and on files.
+///
+/// # Errors
+///
+/// Memory ran out.
+pub fn push_said(text: &mut Vec<u8>, lines: &[Vec<u8>]) -> Result<(), AllocError> {
+    if lines.iter().all(|line| is_passed(line)) {
+        return Ok(());
+    }
+    text.extend_from_slice(b" When the fixes were read this was said: ")?;
+    push_lines(text, lines)?;
+    text.extend_from_slice(b".")
+}
+
+// Appends an option with its value, if it has one.
+fn push_option(text: &mut Vec<u8>, option: &Given) -> Result<(), AllocError> {
+    push_escaped(text, &option.name)?;
+    match &option.value {
+        Some(value) if !value.is_empty() => {
+            text.extend_from_slice(b" ")?;
+            push_escaped(text, value)
+        }
+        _ => Ok(()),
+    }
+}
+
+/// Appends the options with which an export was split, or a frame read.
+///
+/// # Errors
+///
+/// Memory ran out.
+pub fn push_options(text: &mut Vec<u8>, record: &Record) -> Result<(), AllocError> {
+    if record.options.is_empty() {
+        return Ok(());
+    }
+    let what: &[u8] = if record.export.is_some() {
+        b"split"
+    } else {
+        b"call"
+    };
+    text.extend_from_slice(b" Options of the ")?;
+    text.extend_from_slice(what)?;
+    for (place, option) in record.options.iter().enumerate() {
+        let before: &[u8] = if place == 0 { b": " } else { b", " };
+        text.extend_from_slice(before)?;
+        push_option(text, option)?;
+    }
+    text.extend_from_slice(b".")
+}

@@ -1,0 +1,72 @@
+// Checksums of what a page stands on, and how they are checked.
+
+use page_text::{push_escaped, push_named};
+use std::alloc::AllocError;
+
+/// What the checksums of a page are of. Each is of SHA-256, in 64 digits.
+#[derive(Clone, Copy)]
+pub struct Sums<'a> {
+    /// The export and its checksum; none where the tracks were made of a table in memory.
+    pub export: Option<(&'a [u8], &'a [u8])>,
+    pub report: &'a [u8],
+    /// What the program says of its version, and its checksum.
+    pub program: (&'a [u8], &'a [u8]),
+}
+
+// Appends the end of the line of a checksum, of a field with this name.
+fn push_sum(text: &mut Vec<u8>, field: &[u8], sum: &[u8]) -> Result<(), AllocError> {
+    text.extend_from_slice(b"</td><td class=\"sum\" data-field=\"")?;
+    text.extend_from_slice(field)?;
+    text.extend_from_slice(b"\">")?;
+    push_escaped(text, sum)?;
+    text.extend_from_slice(b"</td></tr>")
+}
+
+// Appends the line of the export.
+fn push_export(text: &mut Vec<u8>, export: Option<(&[u8], &[u8])>) -> Result<(), AllocError> {
+    text.extend_from_slice(b"<tr><th>Export</th><td>")?;
+    match export {
+        Some((name, sum)) => {
+            push_named(text, name)?;
+            push_sum(text, b"export_sha256", sum)
+        }
+        None => push_sum(
+            text,
+            b"export_sha256",
+            b"none: the tracks were made of a data frame",
+        ),
+    }
+}
+
+/// Appends the lines of checksums.
+///
+/// # Errors
+///
+/// Memory ran out.
+pub fn push_sums(text: &mut Vec<u8>, sums: &Sums) -> Result<(), AllocError> {
+    push_export(text, sums.export)?;
+    text.extend_from_slice(b"\n<tr><th>Report</th><td>report.txt")?;
+    push_sum(text, b"report_sha256", sums.report)?;
+    text.extend_from_slice(b"\n<tr><th>Program</th><td>")?;
+    push_escaped(text, sums.program.0)?;
+    push_sum(text, b"program_sha256", sums.program.1)
+}
+
+/// Appends how all that is handed in is checked.
+///
+/// # Errors
+///
+/// Memory ran out.
+pub fn push_verify(text: &mut Vec<u8>, has_export: bool) -> Result<(), AllocError> {
+    let words: &[u8] = if has_export {
+        b"FOLDER EXPORT"
+    } else {
+        b"FOLDER"
+    };
+    text.extend_from_slice(
+        b"Sums are SHA-256. This checks the folder that is handed in, and says what held and what was not looked at, in ",
+    )?;
+    text.extend_from_slice(b"a clone of homerange: <code>python3 tools/verify.py ")?;
+    text.extend_from_slice(words)?;
+    text.extend_from_slice(b"</code>")
+}

@@ -1,0 +1,5 @@
+//! Tests of the reader of the record of tracks.
+#![tactic(auto)]
+
+mod faults;
+mod records;

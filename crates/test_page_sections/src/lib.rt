@@ -1,0 +1,7 @@
+//! Tests of the sections of the page.
+#![tactic(auto)]
+
+mod cases;
+mod many;
+mod sections;
+mod words;
