@@ -1,5 +1,0 @@
-pub mod FieldsBack
-pub mod LinesBack
-pub mod RecordBack
-pub mod Texts
-pub mod UnescapedBack
