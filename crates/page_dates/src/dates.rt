@@ -32,8 +32,12 @@ fn month_name(month: u64) -> &'static [u8]
     }
 }
 
-// Appends a day as 20 Sep 2024.
-fn push_day(text: &mut Vec<u8>, date: (u64, u64, u64)) -> Result<(), AllocError>
+/// Appends a day, which is a year, a month and a day of it, as `20 Sep 2024`.
+///
+/// # Errors
+///
+/// Memory ran out.
+pub fn push_day(text: &mut Vec<u8>, date: (u64, u64, u64)) -> Result<(), AllocError>
     ensures { OnOk result (text.new.items ≡ text.old.items ++ day_text date) }
 {
     push_whole(text, u128::from(date.2))?;

@@ -7,5 +7,5 @@ mod dates;
 mod laws;
 
 pub use calendar::{END_OF_DAYS, date_of_day};
-pub use dates::{push_date, push_period};
+pub use dates::{push_date, push_day, push_period};
 pub use laws::{days_are_of_the_calendar, end_of_days_is_this};

@@ -64,8 +64,8 @@ fn without(coordinate: i64, metres: i32) -> i64
     coordinate - 1000 * i64::from(metres)
 }
 
-// Where a point lies on the ground.
-pub(crate) fn ground_of(plane: Plane, point: Point) -> Ground {
+/// Where a point lies on the ground.
+pub fn ground_of(plane: Plane, point: Point) -> Ground {
     Ground {
         east: without(millimetres(plane.unit, point.e), plane.east),
         north: without(millimetres(plane.unit, point.n), plane.north),

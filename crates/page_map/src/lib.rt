@@ -18,6 +18,6 @@ mod place;
 mod scene;
 mod times;
 
-pub use land::{GROUND_LIMIT, Ground, Plane};
+pub use land::{GROUND_LIMIT, Ground, Plane, ground_of};
 pub use maps::{Maps, draw_maps};
 pub use scene::Shape;

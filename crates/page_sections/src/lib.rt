@@ -18,5 +18,6 @@ pub use method::{Totals, push_left_out, push_method, push_options, push_said};
 pub use notes::{Unused, push_without_range};
 pub use overlaps::{push_overlap_sentence, push_overlap_table};
 pub use sentences::push_sentences;
-pub use shown::{Shown, Source};
-pub use sums::{Sums, push_sums, push_verify};
+pub use reasons::reason_word;
+pub use shown::{Shown, Source, falling_levels};
+pub use sums::{Origin, Sums, push_sums, push_verify};

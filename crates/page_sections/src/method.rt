@@ -2,12 +2,11 @@
 
 use crate::cells::push_count;
 use crate::reasons::phrase;
-use crate::shown::{Shown, Source, levels_of, source_words};
+use crate::shown::{Shown, Source, falling_levels, source_words};
 use memchr::memmem;
 use page_record::{Given, Record};
 use page_text::{between, push_escaped, push_fixes};
 use range_plane::Scale;
-use range_stats::PercentRow;
 use split_tracks::Reason;
 use std::alloc::{AllocError, Global};
 
@@ -30,23 +29,12 @@ fn unit_words(unit: Scale) -> &'static [u8] {
     }
 }
 
-// Levels from the highest on.
-fn falling(alloc: Global, levels: &[PercentRow]) -> Result<Vec<u8>, AllocError> {
-    let mut found = Vec::new(alloc);
-    for own in levels {
-        found.push(u8::MAX - own.level)?;
-    }
-    found.sort()?;
-    Ok(found)
-}
-
-// Appends the levels, from the highest on.
-fn push_levels(alloc: Global, text: &mut Vec<u8>, levels: &[PercentRow]) -> Result<(), AllocError> {
-    let falling = falling(alloc, levels)?;
-    for (place, own) in falling.iter().enumerate() {
-        push_count(text, u64::from(u8::MAX - *own))?;
+// Appends levels.
+fn push_levels(text: &mut Vec<u8>, levels: &[u8]) -> Result<(), AllocError> {
+    for (place, level) in levels.iter().enumerate() {
+        push_count(text, u64::from(*level))?;
         text.extend_from_slice(b" %")?;
-        text.extend_from_slice(between(falling.len() - place - 1).as_bytes())?;
+        text.extend_from_slice(between(levels.len() - place - 1).as_bytes())?;
     }
     Ok(())
 }
@@ -89,7 +77,7 @@ pub fn push_method(
     system: &[u8],
 ) -> Result<(), AllocError> {
     text.extend_from_slice(b"Home ranges are minimum convex polygons (MCP; Mohr 1947) of ")?;
-    push_levels(alloc, text, levels_of(shown.report))?;
+    push_levels(text, &falling_levels(alloc, shown.report)?)?;
     push_program(text, version, shown.report.unit, system)?;
     text.extend_from_slice(RULE)
 }

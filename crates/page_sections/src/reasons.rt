@@ -42,6 +42,12 @@ pub(crate) fn field(reason: Reason) -> &'static [u8] {
     }
 }
 
+/// The word of a reason in the titles of tables, behind `left_`.
+pub fn reason_word(reason: Reason) -> &'static [u8] {
+    let field = field(reason);
+    field.strip_prefix(b"left_").unwrap_or(field)
+}
+
 // What a sentence says of fixes that were left out for a reason.
 pub(crate) fn phrase(reason: Reason) -> &'static [u8] {
     match reason {

@@ -7,6 +7,7 @@ use page_tables::Told;
 use range_stats::PercentRow;
 use split_clock::Clock;
 use split_tracks::Reason;
+use std::alloc::{AllocError, Global};
 
 /// What the fixes were in.
 #[derive(Clone, Copy, PartialEq, Eq, Debug)]
@@ -56,4 +57,19 @@ pub(crate) fn levels_of(report: &Report) -> &[PercentRow] {
         Some(animal) => &animal.percents,
         None => &[],
     }
+}
+
+/// The levels of a report, from the highest on.
+///
+/// # Errors
+///
+/// Memory ran out.
+pub fn falling_levels(alloc: Global, report: &Report) -> Result<Vec<u8>, AllocError> {
+    let mut levels = Vec::new(alloc);
+    for own in levels_of(report) {
+        levels.push(own.level)?;
+    }
+    levels.sort()?;
+    levels.reverse();
+    Ok(levels)
 }

@@ -3,11 +3,21 @@
 use page_text::{push_escaped, push_named};
 use std::alloc::AllocError;
 
+/// What tracks were made of.
+#[derive(Clone, Copy)]
+pub enum Origin<'a> {
+    /// An export, by its name and its checksum.
+    Export(&'a [u8], &'a [u8]),
+    /// A table in memory.
+    Data,
+    /// No record says of what.
+    Unknown,
+}
+
 /// What the checksums of a page are of. Each is of SHA-256, in 64 digits.
 #[derive(Clone, Copy)]
 pub struct Sums<'a> {
-    /// The export and its checksum; none where the tracks were made of a table in memory.
-    pub export: Option<(&'a [u8], &'a [u8])>,
+    pub origin: Origin<'a>,
     pub report: &'a [u8],
     /// What the program says of its version, and its checksum.
     pub program: (&'a [u8], &'a [u8]),
@@ -23,19 +33,17 @@ fn push_sum(text: &mut Vec<u8>, field: &[u8], sum: &[u8]) -> Result<(), AllocErr
 }
 
 // Appends the line of the export.
-fn push_export(text: &mut Vec<u8>, export: Option<(&[u8], &[u8])>) -> Result<(), AllocError> {
+fn push_export(text: &mut Vec<u8>, origin: Origin) -> Result<(), AllocError> {
     text.extend_from_slice(b"<tr><th>Export</th><td>")?;
-    match export {
-        Some((name, sum)) => {
+    let sum = match origin {
+        Origin::Export(name, sum) => {
             push_named(text, name)?;
-            push_sum(text, b"export_sha256", sum)
+            sum
         }
-        None => push_sum(
-            text,
-            b"export_sha256",
-            b"none: the tracks were made of a data frame",
-        ),
-    }
+        Origin::Data => b"none: the tracks were made of a data frame",
+        Origin::Unknown => b"not known, since no record of a split was named",
+    };
+    push_sum(text, b"export_sha256", sum)
 }
 
 /// Appends the lines of checksums.
@@ -44,7 +52,7 @@ fn push_export(text: &mut Vec<u8>, export: Option<(&[u8], &[u8])>) -> Result<(),
 ///
 /// Memory ran out.
 pub fn push_sums(text: &mut Vec<u8>, sums: &Sums) -> Result<(), AllocError> {
-    push_export(text, sums.export)?;
+    push_export(text, sums.origin)?;
     text.extend_from_slice(b"\n<tr><th>Report</th><td>report.txt")?;
     push_sum(text, b"report_sha256", sums.report)?;
     text.extend_from_slice(b"\n<tr><th>Program</th><td>")?;

@@ -6,7 +6,7 @@ use crate::cases::{
 };
 use page_record::read_record;
 use page_sections::{
-    Source, Sums, Totals, Unused, push_left_out, push_options, push_said, push_sums, push_verify,
+    Origin, Source, Sums, Totals, Unused, push_left_out, push_options, push_said, push_sums, push_verify,
     push_without_range,
 };
 use split_tracks::Reason;
@@ -96,26 +96,23 @@ fn what_was_left_out_is_a_sentence(rt: HostRuntime) {
 }
 
 // Checksums, and how they are checked.
-fn sums<'a>(
-    alloc: Global,
-    export: Option<(&'a [u8], &'a [u8])>,
-) -> Result<(Vec<u8>, Vec<u8>), AllocError> {
+fn sums(alloc: Global, origin: Origin) -> Result<(Vec<u8>, Vec<u8>), AllocError> {
     let (mut text, mut words) = (Vec::new(alloc), Vec::new(alloc));
     let sums = Sums {
-        export,
+        origin,
         report: ONES,
         program: (b"homerange 1.0.0", TWOS),
     };
     push_sums(&mut text, &sums)?;
-    push_verify(&mut words, export.is_some())?;
+    push_verify(&mut words, matches!(origin, Origin::Export(..)))?;
     Ok((text, words))
 }
 
 #[test]
 fn checksums_are_those_that_are_given(rt: HostRuntime) {
     let (Ok(export), Ok(data)) = (
-        sums(rt.alloc(), Some((b"a&b.csv", ZEROS))),
-        sums(rt.alloc(), None),
+        sums(rt.alloc(), Origin::Export(b"a&b.csv", ZEROS)),
+        sums(rt.alloc(), Origin::Data),
     ) else {
         assert!(rt; false, "there is memory");
         return;

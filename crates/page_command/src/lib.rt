@@ -1,0 +1,12 @@
+//! A command line of `homerange-page` that is obeyed: the help or the version, or the tables and the page of a folder, or a refusal
+//! that is told in one line and a status.
+#![tactic(auto)]
+
+mod answer;
+mod clock;
+mod folder;
+mod make;
+mod stop;
+mod write;
+
+pub use answer::answer;

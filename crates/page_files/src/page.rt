@@ -1,0 +1,123 @@
+// The page of a folder.
+
+use crate::drawn::shapes_of;
+use crate::fault::{PageFault, refused};
+use crate::given::{Given, Words};
+use crate::told::{lefts_of_all, tally_of, unused_of};
+use crate::tracks::tracks_of;
+use page_ground::{Differences, differences_of, push_system};
+use page_html::{Page, push_page};
+use page_map::{Ground, Plane, Shape};
+use page_record::{Record, records_of_all, system_of};
+use page_sections::{Shown, Totals, falling_levels};
+use sha2::{Digest, Sha256};
+use std::alloc::{AllocError, Global};
+
+// The SHA-256 checksum of some bytes, in 64 digits.
+fn sum_of(bytes: &[u8]) -> [u8; 64] {
+    let digest = Sha256::digest(bytes);
+    let mut digits = [0; 64];
+    hex::encode_to_slice(digest, &mut digits).unwrap();
+    digits
+}
+
+// The reference system of coordinates, as it is written.
+fn system_text(
+    alloc: Global,
+    words: &Words,
+    record: Option<&Record>,
+) -> Result<Vec<u8>, AllocError> {
+    let mut text = Vec::new(alloc);
+    match (words.system, record) {
+        (Some(system), _) => text.extend_from_slice(system)?,
+        (None, Some(record)) => push_system(&mut text, record.zone, system_of(record))?,
+        (None, None) => push_system(&mut text, None, None)?,
+    }
+    Ok(text)
+}
+
+// How many metres were added to a coordinate, which a record of tracks keeps small.
+fn metres(alloc: Global, added: i64) -> Result<i32, PageFault> {
+    match i32::try_from(added) {
+        Ok(metres) => Ok(metres),
+        Err(_greater) => Err(refused(format!(in alloc; "tracks/split.txt: a shift of {added} metres is too great"))),
+    }
+}
+
+// Where whole units of a report lie.
+fn plane_of(
+    alloc: Global,
+    shown: &Shown,
+    words: &Words,
+    record: Option<&Record>,
+) -> Result<Plane, PageFault> {
+    let (east, north) = match record {
+        Some(record) => (metres(alloc, record.shift.0)?, metres(alloc, record.shift.1)?),
+        None => words.shift,
+    };
+    Ok(Plane {
+        unit: shown.report.unit,
+        east,
+        north,
+    })
+}
+
+// By how much areas on the grid differ from those on the ground.
+fn differences(
+    words: &Words,
+    record: Option<&Record>,
+    plane: Plane,
+    shapes: &[Shape],
+) -> Option<Differences> {
+    let zone = record.and_then(|record| record.zone);
+    match (words.differences, words.system, zone) {
+        (Some(own), _, _) => Some(own),
+        (None, None, Some(_zone)) => differences_of(plane, shapes),
+        _ => None,
+    }
+}
+
+// The page of what is shown.
+pub(crate) fn page_of(
+    alloc: Global,
+    shown: &Shown,
+    given: &Given,
+    words: &Words,
+    record: Option<&Record>,
+    boundary: Option<&[Vec<Ground>]>,
+) -> Result<Vec<u8>, PageFault> {
+    let tracks = tracks_of(alloc, shown.report, given.tracks)?;
+    let levels = falling_levels(alloc, shown.report)?;
+    let shapes = shapes_of(alloc, shown.report, &tracks, &levels)?;
+    let (plane, system) = (
+        plane_of(alloc, shown, words, record)?,
+        system_text(alloc, words, record)?,
+    );
+    let tally = tally_of(alloc, record)?;
+    let unused = unused_of(alloc, shown.report, &tally)?;
+    let left = match record {
+        Some(record) => lefts_of_all(alloc, record)?,
+        None => Vec::new(alloc),
+    };
+    let records = record.map_or(0, |own| u64::try_from(records_of_all(own)).unwrap_or(u64::MAX));
+    let page = Page {
+        shown: *shown,
+        record,
+        totals: record.map(|_own| Totals {
+            records,
+            left: &left,
+        }),
+        unused: &unused,
+        shapes: &shapes,
+        plane,
+        boundary,
+        system: &system,
+        differences: differences(words, record, plane, &shapes),
+        report_sum: &sum_of(given.report),
+        words: words.page,
+        made: words.made,
+    };
+    let mut text = Vec::new(alloc);
+    push_page(alloc, &mut text, &page)?;
+    Ok(text)
+}

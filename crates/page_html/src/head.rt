@@ -1,0 +1,110 @@
+// The head of the page: its title, what was typed in, the time of the fixes, and when it was made.
+
+use crate::page::Page;
+use crate::template::{BEFORE_HEADING, BEFORE_MADE, BEFORE_PERIOD, BEFORE_TITLE, BEFORE_TYPED};
+use crate::words::Words;
+use page_dates::{push_day, push_period};
+use page_report::ReadAnimal;
+use page_sections::Shown;
+use page_tables::Told;
+use page_text::{between, push_escaped, push_named, push_whole};
+use std::alloc::AllocError;
+
+// How many animals have their names in the heading.
+const MOST_NAMED: usize = 3;
+
+// Appends the names of animals, as text.
+fn push_names(text: &mut Vec<u8>, animals: &[ReadAnimal]) -> Result<(), AllocError> {
+    for (place, animal) in animals.iter().enumerate() {
+        push_escaped(text, &animal.name)?;
+        text.extend_from_slice(between(animals.len() - place - 1).as_bytes())?;
+    }
+    Ok(())
+}
+
+// Appends the title that a page of these animals has where none was typed in.
+fn push_usual_title(text: &mut Vec<u8>, animals: &[ReadAnimal]) -> Result<(), AllocError> {
+    text.extend_from_slice(b"Home ranges of ")?;
+    if animals.len() <= MOST_NAMED {
+        return push_names(text, animals);
+    }
+    push_whole(text, animals.len() as u128)?;
+    text.extend_from_slice(b" animals")
+}
+
+// Appends the title.
+fn push_title(text: &mut Vec<u8>, page: &Page) -> Result<(), AllocError> {
+    match page.words.title {
+        Some(title) => push_escaped(text, title),
+        None => push_usual_title(text, &page.shown.report.animals),
+    }
+}
+
+// Appends what was typed in under a name, if something was.
+fn push_typed(text: &mut Vec<u8>, name: &[u8], words: Option<&[u8]>) -> Result<(), AllocError> {
+    let Some(words) = words else {
+        return Ok(());
+    };
+    text.extend_from_slice(b"<span>")?;
+    text.extend_from_slice(name)?;
+    text.extend_from_slice(b": ")?;
+    push_named(text, words)?;
+    text.extend_from_slice(b"</span> ")
+}
+
+// Appends all that was typed in but the title.
+fn push_all_typed(text: &mut Vec<u8>, words: &Words) -> Result<(), AllocError> {
+    push_typed(text, b"Study", words.study)?;
+    push_typed(text, b"Species", words.species)?;
+    push_typed(text, b"By", words.by)
+}
+
+// The seconds of the first and of the last fix of all animals.
+fn seconds_of_all(told: &[Told]) -> Option<(u64, u64)> {
+    let first = told.iter().filter_map(|own| own.facts.first).min()?;
+    let last = told.iter().filter_map(|own| own.facts.last).max()?;
+    Some((first, last))
+}
+
+// Appends the time from the first fix to the last, and by which clock its dates are.
+fn push_time(text: &mut Vec<u8>, shown: &Shown) -> Result<(), AllocError> {
+    let Some((first, last)) = seconds_of_all(shown.told) else {
+        return Ok(());
+    };
+    push_period(text, shown.clock, shown.dated, first, last)?;
+    if !shown.dated {
+        return text.extend_from_slice(b" (counted from the start that the files have)");
+    }
+    text.extend_from_slice(b" (dates of ")?;
+    push_escaped(text, shown.zone)?;
+    text.extend_from_slice(b")")
+}
+
+// Appends when the page was made, and by what.
+fn push_made(text: &mut Vec<u8>, page: &Page) -> Result<(), AllocError> {
+    text.extend_from_slice(b"Made ")?;
+    if let Some(day) = page.made.day {
+        text.extend_from_slice(b"on ")?;
+        push_day(text, day)?;
+        text.extend_from_slice(b" ")?;
+    }
+    text.extend_from_slice(b"with ")?;
+    push_escaped(text, page.made.version)?;
+    text.extend_from_slice(b".")
+}
+
+// Appends the head of the page.
+pub(crate) fn push_head(text: &mut Vec<u8>, page: &Page) -> Result<(), AllocError> {
+    text.extend_from_slice(BEFORE_TITLE)?;
+    push_title(text, page)?;
+    text.extend_from_slice(BEFORE_HEADING)?;
+    text.extend_from_slice(b"<bdi>")?;
+    push_title(text, page)?;
+    text.extend_from_slice(b"</bdi>")?;
+    text.extend_from_slice(BEFORE_TYPED)?;
+    push_all_typed(text, &page.words)?;
+    text.extend_from_slice(BEFORE_PERIOD)?;
+    push_time(text, &page.shown)?;
+    text.extend_from_slice(BEFORE_MADE)?;
+    push_made(text, page)
+}

@@ -1,0 +1,4 @@
+pub mod Ranked
+pub mod Rows
+pub mod Same
+pub mod Tracks

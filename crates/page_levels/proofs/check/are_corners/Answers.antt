@@ -1,0 +1,5 @@
+use Rattle.std.proofs.Common.{rules, ◌≡◌, IsTrue, map, length}
+use Rattle.page_levels.proofs.check.are_corners.Goals as goal
+
+pub returns : goal.returns
+returns c = ?
