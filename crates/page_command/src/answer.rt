@@ -4,11 +4,10 @@ use crate::make::make;
 use crate::stop::{Stop, refused_words, tell};
 use page_words::{PageWords, WordFault, read_words};
 use std::alloc::{AllocError, Global};
-use std::env;
 use std::env::Env;
-use std::io;
 use std::io::{ErrorKind, Write};
 use std::rt::Files;
+use std::{env, io};
 
 // Writes the help or the version.
 fn reply<W: Write>(alloc: Global, text: &str, out: &mut W) -> Result<(), Stop> {

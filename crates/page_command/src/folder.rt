@@ -45,7 +45,9 @@ fn bytes_if_there<R: Files + AllocGlobal>(rt: &R, path: &str) -> Result<Option<V
 
 // That a file is not there.
 fn missing(alloc: Global, path: &str) -> Stop {
-    match format!(in alloc; "{path} is not there: a folder has the report of homerange as report.txt and its tracks in tracks") {
+    match format!(in alloc;
+        "{path} is not there: a folder has the report of homerange as report.txt and its tracks in tracks"
+    ) {
         Ok(text) => Stop::Folder(text),
         Err(_no_memory) => Stop::OutOfMemory,
     }

@@ -4,11 +4,10 @@
 use crate::stop::{Stop, unwritten};
 use page_files::Files as Made;
 use std::alloc::Global;
-use std::fs;
 use std::fs::{File, OpenFile};
-use std::io;
 use std::io::Write;
 use std::rt::Files;
+use std::{fs, io};
 
 // A file that is to be written.
 #[derive(Clone, Copy)]

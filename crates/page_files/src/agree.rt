@@ -24,7 +24,10 @@ fn used_in(record: &Record, animal: &[u8]) -> usize {
 
 // Whether a report has an animal.
 fn has(report: &Report, name: &[u8]) -> bool {
-    report.animals.iter().any(|animal| animal.name.as_slice() == name)
+    report
+        .animals
+        .iter()
+        .any(|animal| animal.name.as_slice() == name)
 }
 
 // Refuses a report with an animal of which the record has other numbers.

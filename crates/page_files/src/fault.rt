@@ -53,7 +53,9 @@ pub(crate) fn report_fault(alloc: Global, text: &[u8], fault: ReadFault) -> Page
         ReadFault::OutOfMemory => PageFault::OutOfMemory,
         ReadFault::Line { left } => {
             let line = line_at(text, left);
-            refused(format!(in alloc; "report.txt: line {line} is none that a report of homerange has there"))
+            refused(format!(in alloc;
+                "report.txt: line {line} is none that a report of homerange has there"
+            ))
         }
     }
 }
@@ -76,7 +78,8 @@ fn track_words(fault: LevelFault) -> &'static str {
         LevelFault::OtherExtent => "its fixes have another box than the report says",
         LevelFault::OtherRow => "its fixes have other rows than the report says",
         LevelFault::OtherCorner => "its fixes have other corners than the report says",
-        LevelFault::OtherPercent { .. } => "its fixes have another percent polygon than the report says",
+        LevelFault::OtherPercent { .. } =>
+            "its fixes have another percent polygon than the report says",
         _ => "it is not the track that the report was made of",
     }
 }

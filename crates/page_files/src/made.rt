@@ -1,9 +1,14 @@
 // The tables and the page.
 
+ghost use Rattle.std.specs.Prelude.{◌≡◌, IfOk, Some, option_map};
+ghost use Rattle.page_report.specs.Reading.{found_in, read, report_of};
+ghost use Rattle.page_tables.specs.Overlaps.{overlaps};
+ghost use Rattle.page_tables.specs.Summary.{summary};
+
 use crate::agree::check_agrees;
 use crate::fault::{PageFault, record_fault, refused, report_fault};
 use crate::given::{Given, Words};
-use crate::page::page_of;
+use crate::page::{Beside, page_of};
 use crate::told::{reasons_of, tally_of, told_of_all};
 use page_boundary::{BoundaryFault, read_boundary};
 use page_facts::are_dates;
@@ -36,7 +41,9 @@ fn record_of(alloc: Global, text: Option<&[u8]>) -> Result<Option<Record>, PageF
 }
 
 // The report, read.
-fn report_of(alloc: Global, text: &[u8]) -> Result<Report, PageFault> {
+fn report_of(alloc: Global, text: &[u8]) -> Result<Report, PageFault>
+    ensures { IfOk result (λ report. found_in (report_of text.now) ≡ Some (read report)) }
+{
     match read_report(alloc, text) {
         Ok(report) => Ok(report),
         Err(fault) => Err(report_fault(alloc, text, fault)),
@@ -74,26 +81,60 @@ fn words_of(alloc: Global, reasons: &[Reason]) -> Result<Vec<&'static [u8]>, All
     Ok(words)
 }
 
-// The tables and the page of what is shown.
-fn files_of_shown(
+// The table of animals and levels.
+fn summary_of(alloc: Global, report: &Report) -> Result<Vec<u8>, AllocError>
+    ensures { IfOk result (λ text. text.items ≡ summary (read report.now)) }
+{
+    let mut text = Vec::new(alloc);
+    push_summary(&mut text, report)?;
+    Ok(text)
+}
+
+// The table of overlaps.
+fn overlaps_of(alloc: Global, report: &Report) -> Result<Vec<u8>, AllocError>
+    ensures { IfOk result (λ text. text.items ≡ overlaps (read report.now)) }
+{
+    let mut text = Vec::new(alloc);
+    push_overlaps(&mut text, report)?;
+    Ok(text)
+}
+
+// The table of animals.
+fn animals_of(alloc: Global, shown: &Shown) -> Result<Vec<u8>, AllocError> {
+    let reasons = words_of(alloc, shown.reasons)?;
+    let mut text = Vec::new(alloc);
+    push_animals(&mut text, shown.report, &reasons, shown.told)?;
+    Ok(text)
+}
+
+// The table of animals and the page of a report, where there is a record or none.
+fn rest_of(
     alloc: Global,
-    shown: &Shown,
+    report: &Report,
     given: &Given,
     words: &Words,
     record: Option<&Record>,
-) -> Result<Files, PageFault> {
-    let rings = rings_of(alloc, given.boundary)?;
-    let mut files = Files {
-        summary: Vec::new(alloc),
-        animals: Vec::new(alloc),
-        overlaps: Vec::new(alloc),
-        page: page_of(alloc, shown, given, words, record, rings.as_deref())?,
+) -> Result<(Vec<u8>, Vec<u8>), PageFault> {
+    let tally = tally_of(alloc, record)?;
+    let reasons = reasons_of(alloc, report, &tally)?;
+    let told = told_of_all(alloc, report, &tally, &reasons)?;
+    let shown = Shown {
+        report,
+        told: &told,
+        reasons: &reasons,
+        source: source_of(record),
+        dated: are_dates(report),
+        clock: words.clock,
+        zone: words.zone,
     };
-    let reasons = words_of(alloc, shown.reasons)?;
-    push_summary(&mut files.summary, shown.report)?;
-    push_animals(&mut files.animals, shown.report, &reasons, shown.told)?;
-    push_overlaps(&mut files.overlaps, shown.report)?;
-    Ok(files)
+    let rings = rings_of(alloc, given.boundary)?;
+    let beside = Beside {
+        record,
+        tally: &tally,
+        boundary: rings.as_deref(),
+    };
+    let page = page_of(alloc, &shown, given, words, &beside)?;
+    Ok((animals_of(alloc, &shown)?, page))
 }
 
 /// The tables and the page of a folder, of the bytes of its files.
@@ -101,21 +142,18 @@ fn files_of_shown(
 /// # Errors
 ///
 /// A file is not right, or two do not agree, or memory ran out.
-pub fn files_of(alloc: Global, given: &Given, words: &Words) -> Result<Files, PageFault> {
+pub fn files_of(alloc: Global, given: &Given, words: &Words) -> Result<Files, PageFault>
+    ensures summary { IfOk result (λ files. option_map summary (found_in (report_of given.now.report.now)) ≡ Some files.summary.items) }
+    ensures overlaps { IfOk result (λ files. option_map overlaps (found_in (report_of given.now.report.now)) ≡ Some files.overlaps.items) }
+{
     let report = report_of(alloc, given.report)?;
     let record = record_of(alloc, given.record)?;
     check_agrees(alloc, &report, record.as_ref())?;
-    let tally = tally_of(alloc, record.as_ref())?;
-    let reasons = reasons_of(alloc, &report, &tally)?;
-    let told = told_of_all(alloc, &report, &tally, &reasons)?;
-    let shown = Shown {
-        report: &report,
-        told: &told,
-        reasons: &reasons,
-        source: source_of(record.as_ref()),
-        dated: are_dates(&report),
-        clock: words.clock,
-        zone: words.zone,
-    };
-    files_of_shown(alloc, &shown, given, words, record.as_ref())
+    let (animals, page) = rest_of(alloc, &report, given, words, record.as_ref())?;
+    Ok(Files {
+        summary: summary_of(alloc, &report)?,
+        animals,
+        overlaps: overlaps_of(alloc, &report)?,
+        page,
+    })
 }

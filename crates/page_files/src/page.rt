@@ -3,13 +3,13 @@
 use crate::drawn::shapes_of;
 use crate::fault::{PageFault, refused};
 use crate::given::{Given, Words};
-use crate::told::{lefts_of_all, tally_of, unused_of};
+use crate::told::{Tally, lefts_of_all, totals_of, unused_of};
 use crate::tracks::tracks_of;
 use page_ground::{Differences, differences_of, push_system};
 use page_html::{Page, push_page};
 use page_map::{Ground, Plane, Shape};
-use page_record::{Record, records_of_all, system_of};
-use page_sections::{Shown, Totals, falling_levels};
+use page_record::{Record, system_of};
+use page_sections::{Shown, falling_levels};
 use sha2::{Digest, Sha256};
 use std::alloc::{AllocError, Global};
 
@@ -40,7 +40,9 @@ fn system_text(
 fn metres(alloc: Global, added: i64) -> Result<i32, PageFault> {
     match i32::try_from(added) {
         Ok(metres) => Ok(metres),
-        Err(_greater) => Err(refused(format!(in alloc; "tracks/split.txt: a shift of {added} metres is too great"))),
+        Err(_greater) => Err(refused(format!(in alloc;
+            "tracks/split.txt: a shift of {added} metres is too great"
+        ))),
     }
 }
 
@@ -52,7 +54,10 @@ fn plane_of(
     record: Option<&Record>,
 ) -> Result<Plane, PageFault> {
     let (east, north) = match record {
-        Some(record) => (metres(alloc, record.shift.0)?, metres(alloc, record.shift.1)?),
+        Some(record) => (
+            metres(alloc, record.shift.0)?,
+            metres(alloc, record.shift.1)?,
+        ),
         None => words.shift,
     };
     Ok(Plane {
@@ -77,42 +82,41 @@ fn differences(
     }
 }
 
+// What was read beside the report.
+#[derive(Clone, Copy)]
+pub(crate) struct Beside<'a> {
+    pub record: Option<&'a Record>,
+    // The counts of the record by animals.
+    pub tally: &'a Tally,
+    // The rings of the boundary, if there is one.
+    pub boundary: Option<&'a [Vec<Ground>]>,
+}
+
 // The page of what is shown.
 pub(crate) fn page_of(
     alloc: Global,
     shown: &Shown,
     given: &Given,
     words: &Words,
-    record: Option<&Record>,
-    boundary: Option<&[Vec<Ground>]>,
+    beside: &Beside,
 ) -> Result<Vec<u8>, PageFault> {
     let tracks = tracks_of(alloc, shown.report, given.tracks)?;
     let levels = falling_levels(alloc, shown.report)?;
     let shapes = shapes_of(alloc, shown.report, &tracks, &levels)?;
-    let (plane, system) = (
-        plane_of(alloc, shown, words, record)?,
-        system_text(alloc, words, record)?,
-    );
-    let tally = tally_of(alloc, record)?;
-    let unused = unused_of(alloc, shown.report, &tally)?;
-    let left = match record {
-        Some(record) => lefts_of_all(alloc, record)?,
-        None => Vec::new(alloc),
-    };
-    let records = record.map_or(0, |own| u64::try_from(records_of_all(own)).unwrap_or(u64::MAX));
+    let plane = plane_of(alloc, shown, words, beside.record)?;
+    let system = system_text(alloc, words, beside.record)?;
+    let unused = unused_of(alloc, shown.report, beside.tally)?;
+    let left = lefts_of_all(alloc, beside.record)?;
     let page = Page {
         shown: *shown,
-        record,
-        totals: record.map(|_own| Totals {
-            records,
-            left: &left,
-        }),
+        record: beside.record,
+        totals: totals_of(beside.record, &left),
         unused: &unused,
         shapes: &shapes,
         plane,
-        boundary,
+        boundary: beside.boundary,
         system: &system,
-        differences: differences(words, record, plane, &shapes),
+        differences: differences(words, beside.record, plane, &shapes),
         report_sum: &sum_of(given.report),
         words: words.page,
         made: words.made,

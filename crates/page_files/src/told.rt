@@ -2,9 +2,9 @@
 
 use indexmap::IndexMap;
 use page_facts::facts_of;
-use page_record::{Counts, Record, left_of_all, place_in, tally};
+use page_record::{Counts, Record, left_of_all, place_in, records_of_all, tally};
 use page_report::{ReadAnimal, Report};
-use page_sections::Unused;
+use page_sections::{Totals, Unused};
 use page_tables::Told;
 use range_plane::OutOfMemory;
 use split_counts::ALL_REASONS;
@@ -101,21 +101,42 @@ pub(crate) fn told_of_all(
     Ok(told)
 }
 
-// How many fixes of all animals were left out for each reason.
+// How many fixes of all animals were left out for each reason; of no reason where there is no record.
 pub(crate) fn lefts_of_all(
     alloc: Global,
-    record: &Record,
+    record: Option<&Record>,
 ) -> Result<Vec<(Reason, u64)>, AllocError> {
     let mut left = Vec::new(alloc);
+    let Some(record) = record else {
+        return Ok(left);
+    };
     for reason in ALL_REASONS {
         left.push((reason, short(left_of_all(record, reason))))?;
     }
     Ok(left)
 }
 
+// How many records there were, and how many of them were left out; none where there is no record.
+pub(crate) fn totals_of<'a>(
+    record: Option<&Record>,
+    left: &'a [(Reason, u64)],
+) -> Option<Totals<'a>> {
+    match record {
+        Some(record) => Some(Totals {
+            records: short(records_of_all(record)),
+            left,
+        }),
+        None => None,
+    }
+}
+
 // Whether a name is that of an animal that a report does not have.
 fn is_unused(report: &Report, name: &[u8]) -> bool {
-    !name.is_empty() && !report.animals.iter().any(|animal| animal.name.as_slice() == name)
+    !name.is_empty()
+        && !report
+            .animals
+            .iter()
+            .any(|animal| animal.name.as_slice() == name)
 }
 
 // The animals of a record that a report does not have, in the order of their names.

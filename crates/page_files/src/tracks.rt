@@ -28,7 +28,10 @@ fn place_of(alloc: Global, report: &Report, track: &Track) -> Result<Option<usiz
     let Some(name) = animal_of(alloc, track, report.unit)? else {
         return Ok(None);
     };
-    let place = report.animals.iter().position(|animal| animal.name.as_slice() == name.as_slice());
+    let place = report
+        .animals
+        .iter()
+        .position(|animal| animal.name.as_slice() == name.as_slice());
     match place {
         Some(place) => Ok(Some(place)),
         None => Err(animal_fault(alloc, &track.file, &name, "the report has no animal")),

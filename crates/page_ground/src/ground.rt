@@ -36,7 +36,11 @@ fn push_unseen(text: &mut Vec<u8>, unseen: &[u32]) -> Result<(), AllocError> {
         }
         push_whole(text, u128::from(*number))?;
     }
-    let end: &[u8] = if unseen.len() > MOST_UNSEEN { b", ..." } else { b"." };
+    let end: &[u8] = if unseen.len() > MOST_UNSEEN {
+        b", ..."
+    } else {
+        b"."
+    };
     text.extend_from_slice(end)
 }
 

@@ -6,7 +6,11 @@ use std::alloc::AllocError;
 
 // Appends the reference system of a UTM zone, by its code and its name.
 fn push_zone(text: &mut Vec<u8>, zone: Zone) -> Result<(), AllocError> {
-    let start: &[u8] = if zone.is_south { b"EPSG:327" } else { b"EPSG:326" };
+    let start: &[u8] = if zone.is_south {
+        b"EPSG:327"
+    } else {
+        b"EPSG:326"
+    };
     text.extend_from_slice(start)?;
     if zone.number < 10 {
         text.extend_from_slice(b"0")?;

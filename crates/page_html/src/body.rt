@@ -2,16 +2,18 @@
 
 use crate::page::Page;
 use crate::template::{
-    BEFORE_ANIMALS, BEFORE_CHECKSUMS, BEFORE_CURVES, BEFORE_GROUND, BEFORE_KEY, BEFORE_MAPS, BEFORE_METHOD, BEFORE_NOTES,
-    BEFORE_OVERLAP, BEFORE_OVERLAPS, BEFORE_SENTENCES, BEFORE_SIZE, BEFORE_VERIFY, BEHIND_VERIFY,
+    BEFORE_ANIMALS, BEFORE_CHECKSUMS, BEFORE_CURVES, BEFORE_GROUND, BEFORE_KEY, BEFORE_MAPS,
+    BEFORE_METHOD, BEFORE_NOTES, BEFORE_OVERLAP, BEFORE_OVERLAPS, BEFORE_SENTENCES, BEFORE_SIZE,
+    BEFORE_VERIFY, BEHIND_VERIFY,
 };
 use page_curves::push_curves;
 use page_facts::Facts;
 use page_ground::{push_ground, push_key};
 use page_map::draw_maps;
 use page_sections::{
-    Origin, Shown, Sums, falling_levels, push_animals_table, push_left_out, push_method, push_options, push_overlap_sentence, push_overlap_table, push_said,
-    push_sentences, push_sums, push_verify, push_without_range,
+    Origin, Shown, Sums, falling_levels, push_animals_table, push_left_out, push_method,
+    push_options, push_overlap_sentence, push_overlap_table, push_said, push_sentences, push_sums,
+    push_verify, push_without_range,
 };
 use std::alloc::{AllocError, Global};
 
@@ -61,7 +63,11 @@ fn facts_of_all(alloc: Global, shown: &Shown) -> Result<Vec<Facts>, AllocError> 
 fn push_all_curves(alloc: Global, text: &mut Vec<u8>, page: &Page) -> Result<(), AllocError> {
     let animals = &page.shown.report.animals;
     text.extend_from_slice(BEFORE_SIZE)?;
-    text.extend_from_slice(if animals.len() <= FEW { b"whole" } else { b"long" })?;
+    text.extend_from_slice(if animals.len() <= FEW {
+        b"whole"
+    } else {
+        b"long"
+    })?;
     text.extend_from_slice(BEFORE_CURVES)?;
     let facts = facts_of_all(alloc, &page.shown)?;
     push_curves(text, animals, &facts, page.shown.report.unit)

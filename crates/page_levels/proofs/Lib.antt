@@ -1,3 +1,4 @@
+pub mod Drawing
 pub mod Ranked
 pub mod Rows
 pub mod Same

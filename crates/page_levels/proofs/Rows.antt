@@ -1,6 +1,5 @@
 -- Rows of percent polygons, of points in the order of their distances from the mean of all.
-use Rattle.std.proofs.Common.{◌≡◌, ◌∙◌, ◌↔◌, ◌≤◌, ℕ, pos, Bool, IsTrue, All, List, [], ◌∷◌, length, take, refl, sym, ap, subst}
-use Rattle.std.specs.List.{AllZip}
+use Rattle.std.proofs.Common.{◌≡◌, ◌∙◌, ◌↔◌, ℕ, pos, Bool, IsTrue, List, length, take, refl, sym, ap, subst}
 use Rattle.std.specs.List.Sorted.{IsPermutation}
 use Rattle.std.proofs.lemmas.List.{length-map}
 use Rattle.std.proofs.lemmas.List.Sorted.{IsPermutation-sym, length_permutation}
@@ -8,7 +7,7 @@ use Rattle.range_plane.specs.Edges.{at}
 use Rattle.range_plane.specs.Plane.{Position}
 use Rattle.range_plane.specs.Polygon.{IsPolygon, area2}
 use Rattle.range_plane.proofs.ForCallers.{corners_cover_the_set, covering_members_are_corners, larger_sets_cover_more, one_covers_itself, one_polygon}
-use Rattle.range_stats.specs.Percent.{IsPercentRow, kept_count, nearest, nearest_points}
+use Rattle.range_stats.specs.Percent.{IsPercentRow, kept_count, nearest}
 use Rattle.range_stats.specs.declared.percents.PercentRow.{PercentRow}
 use Rattle.range_stats.proofs.RankedMembers.{polygon_of_permutation}
 use Rattle.page_levels.specs.Drawn.{kept_points}

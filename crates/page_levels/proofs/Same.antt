@@ -1,6 +1,8 @@
 -- Boxes, tables and corners of the same fixes are the same.
-use Rattle.std.proofs.Common.{◌≡◌, ◌∙◌, ◌↔◌, ◌+◌, ◌<◌, ℕ, ℤ, pos, Bool, IsTrue, All, List, [], ◌∷◌, length, get_or, map, slice_get, Option, Some, None, refl, sym, ap, arith}
-use Rattle.std.specs.Prelude.{◌≤ℤ◌, Contains}
+use Rattle.std.proofs.Common.{◌≡◌, ◌∙◌, ◌+◌, ◌&&◌, ◌==◌, int_eq, ℕ, ℤ, pos, List, [], ◌∷◌, length, get_or, map, refl, sym, ap, arith}
+use Rattle.std.specs.Prelude.{◌≤ℤ◌}
+use Rattle.std.specs.Bool.{Decides}
+use Rattle.std.proofs.lemmas.Bool.Decides.{Decides-and, Decides-eqb, Decides-int_eq, Decides-like}
 use Rattle.std.proofs.lemmas.Int.{ints}
 use Rattle.std.proofs.lemmas.List.{same_lists}
 use Rattle.std.proofs.lemmas.List.Elements.{All-contains}
@@ -11,7 +13,7 @@ use Rattle.range_lanes.specs.Extent.{IsExtent, IsGreatest, IsLeastCoordinate}
 use Rattle.range_lanes.specs.declared.extent.Extent.{Extent}
 use Rattle.range_plane.specs.Plane.{Position}
 use Rattle.range_plane.specs.Polygon.{area2}
-use Rattle.range_plane.specs.Row.{IsRow, points_of}
+use Rattle.range_plane.specs.Row.{IsRow}
 use Rattle.range_plane.specs.declared.fix.Fix.{Fix}
 use Rattle.range_plane.proofs.ForCallers.{one_polygon}
 use Rattle.page_report.specs.declared.corner.Corner.{Corner}
@@ -62,3 +64,32 @@ positions_back (p ∷ L) = ap (λ l. p ∷ l) (positions_back L)
 pub corners_back : (corners : List Corner) → map corner_at (map corner_position corners) ≡ corners
 corners_back [] = refl
 corners_back (corner ∷ corners) = ap (λ l. corner ∷ l) (corners_back corners)
+
+-- the tests of boxes, rows and corners
+pub extent_decides : (a b : Extent) → Decides (int_eq a.min_e b.min_e && (int_eq a.min_n b.min_n && (int_eq a.max_e b.max_e && int_eq a.max_n b.max_n))) (a ≡ b)
+extent_decides a b =
+    Decides-like _ (λ (same : (a.min_e ≡ b.min_e) × ((a.min_n ≡ b.min_n) × ((a.max_e ≡ b.max_e) × (a.max_n ≡ b.max_n)))). λ i. record {
+      min_e = same.0 i;
+      min_n = same.1.0 i;
+      max_e = same.1.1.0 i;
+      max_n = same.1.1.1 i;
+    })
+    (λ e. (ap (λ (x : Extent). x.min_e) e, (ap (λ (x : Extent). x.min_n) e, (ap (λ (x : Extent). x.max_e) e, ap (λ (x : Extent). x.max_n) e))))
+    (Decides-and _ _ (Decides-int_eq a.min_e b.min_e)
+    (Decides-and _ _ (Decides-int_eq a.min_n b.min_n) (Decides-and _ _ (Decides-int_eq a.max_e b.max_e) (Decides-int_eq a.max_n b.max_n))))
+
+pub row_decides : (a b : Row) → Decides (a.second == b.second && (a.corners == b.corners && a.area2 == b.area2)) (a ≡ b)
+row_decides a b =
+    Decides-like _ (λ (same : (a.second ≡ b.second) × ((a.corners ≡ b.corners) × (a.area2 ≡ b.area2))). λ i. record {
+      second = same.0 i;
+      corners = same.1.0 i;
+      area2 = same.1.1 i;
+    })
+    (λ e. (ap (λ (x : Row). x.second) e, (ap (λ (x : Row). x.corners) e, ap (λ (x : Row). x.area2) e)))
+    (Decides-and _ _ (Decides-eqb a.second b.second) (Decides-and _ _ (Decides-eqb a.corners b.corners) (Decides-eqb a.area2 b.area2)))
+
+pub corner_decides : (a b : Corner) → Decides (int_eq a.easting b.easting && int_eq a.northing b.northing) (a ≡ b)
+corner_decides a b =
+    Decides-like _ (λ (same : (a.easting ≡ b.easting) × (a.northing ≡ b.northing)). λ i. record { easting = same.0 i; northing = same.1 i })
+    (λ e. (ap (λ (x : Corner). x.easting) e, ap (λ (x : Corner). x.northing) e))
+    (Decides-and _ _ (Decides-int_eq a.easting b.easting) (Decides-int_eq a.northing b.northing))

@@ -1,5 +1,5 @@
 -- Whether a report says of an animal what its track says, and why a track is refused.
-use Rattle.std.specs.Prelude.{ℕ, ◌≡◌, ◌≢◌, ◌⊎◌, ⊤, true, All, Contains, List, length, map, Option, Some, None}
+use Rattle.std.specs.Prelude.{ℕ, ◌≡◌, ◌≢◌, ◌⊎◌, ⊤, true, All, Contains, List, length, map, Some, None}
 use Rattle.range_estimator.specs.Estimation.{IsTable}
 use Rattle.range_fixes.specs.Progress.{is_of_text}
 use Rattle.range_fixes.specs.Reading.{Reading}

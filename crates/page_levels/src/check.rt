@@ -13,7 +13,7 @@ use page_report::{Corner, ReadAnimal};
 use range_estimator::{Estimator, Row};
 use range_lanes::{Extent, extremes};
 use range_plane::{Columns, Fix, OutOfMemory, Point};
-use std::alloc::Global;
+use std::alloc::{AllocError, Global};
 
 // Whether a box is that of some points.
 fn is_extent(points: &Columns, extent: Extent) -> bool
@@ -32,14 +32,17 @@ fn are_rows(estimator: &Estimator, rows: &[Row]) -> bool
     estimator.rows() == rows
 }
 
-// The corner of a report at a point.
-fn corner_at(point: Point) -> Corner
-    ensures { result ≡ corner_at point }
+// The corners of a report at points.
+fn corners_at(alloc: Global, points: &[Point]) -> Result<Vec<Corner>, AllocError>
+    ensures { IfOk result (λ corners. corners.items ≡ map corner_at points.now) }
 {
-    Corner {
-        easting: point.e,
-        northing: point.n,
-    }
+    points
+        .iter()
+        .map(|point| Corner {
+            easting: point.e,
+            northing: point.n,
+        })
+        .collect(alloc)
 }
 
 // Whether corners are those of the polygon of the fixes that an estimator took.
@@ -51,11 +54,7 @@ fn are_corners(
     ensures { IfOk result (λ are. IsTrue are ↔ IsPolygon (points_of estimator.now.fixes) (map corner_position corners.now)) }
 {
     let polygon = estimator.polygon(alloc)?;
-    let own: Vec<Corner> = polygon
-        .corners()
-        .iter()
-        .map(|point| corner_at(*point))
-        .collect(alloc)?;
+    let own = corners_at(alloc, polygon.corners())?;
     Ok(own.as_slice() == corners)
 }
 

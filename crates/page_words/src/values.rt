@@ -74,16 +74,19 @@ fn day_of(text: &str) -> Option<(u64, u64, u64)> {
     if year.len() != 4 || month.len() != 2 || day.len() != 2 {
         return None;
     }
-    let (year, month, day) = (number_of(year, 4)?, number_of(month, 2)?, number_of(day, 2)?);
+    let (year, month, day) = (
+        number_of(year, 4)?,
+        number_of(month, 2)?,
+        number_of(day, 2)?,
+    );
     Date::new(year as i16, month as i8, day as i8).ok()?;
     Some((u64::from(year), u64::from(month), u64::from(day)))
 }
 
 // Whether a text is a checksum.
 fn is_sum(text: &str) -> bool {
-    let are_digits = text
-        .bytes()
-        .all(|byte| byte.is_ascii_digit() || (b'a'..=b'f').contains(&byte));
+    let are_digits = text.bytes().all(|byte| byte.is_ascii_digit()
+        || (b'a'..=b'f').contains(&byte));
     text.len() == DIGITS && are_digits
 }
 

@@ -6,8 +6,8 @@ use crate::cases::{
 };
 use page_record::read_record;
 use page_sections::{
-    Origin, Source, Sums, Totals, Unused, push_left_out, push_options, push_said, push_sums, push_verify,
-    push_without_range,
+    Origin, Source, Sums, Totals, Unused, push_left_out, push_options, push_said, push_sums,
+    push_verify, push_without_range,
 };
 use split_tracks::Reason;
 use std::alloc::{AllocError, Global};

@@ -6,8 +6,8 @@ use Rattle.page_levels.proofs.track.fixes_of.Given as goal
 
 abbrev pub invariant-loop-fixes : goal.invariant-loop-fixes
 invariant-loop-fixes l = record {
-  reads : Reads l.reader (reading l.unit l.track);
-  fixes : l.fixes.items ≡ take l.reader.count (reading l.unit l.track).fixes;
+  reads : Reads l.reader (reading l.fn.unit l.track);
+  fixes : l.fixes.items ≡ take l.reader.count (reading l.fn.unit l.track).fixes;
   few : l.reader.count ≤ fix_limit;
 }
 
