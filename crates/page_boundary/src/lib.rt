@@ -1,0 +1,9 @@
+//! The boundary of a map: rings of points, in metres with three decimals.
+#![tactic(auto)]
+
+mod boundary;
+mod lines;
+mod numbers;
+mod rings;
+
+pub use boundary::{BoundaryFault, read_boundary};
