@@ -1,2 +1,5 @@
+pub mod Drawing
 pub mod Ranked
+pub mod Rows
+pub mod Same
 pub mod Tracks

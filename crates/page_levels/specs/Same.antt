@@ -1,5 +1,5 @@
 -- Whether a report says of an animal what its track says, and why a track is refused.
-use Rattle.std.specs.Prelude.{ℕ, ◌≡◌, ◌≢◌, ◌⊎◌, ⊤, true, All, Contains, List, length, map, Option, Some, None}
+use Rattle.std.specs.Prelude.{ℕ, ◌≡◌, ◌≢◌, ◌⊎◌, ⊤, true, All, Contains, List, length, map, Some, None}
 use Rattle.range_estimator.specs.Estimation.{IsTable}
 use Rattle.range_fixes.specs.Progress.{is_of_text}
 use Rattle.range_fixes.specs.Reading.{Reading}
@@ -26,21 +26,25 @@ fault_of fault = Unread fault
 pub record IsTrackOf (name : List ℕ) (fixes : List Fix) (own : Reading) : Type 0 where
   pub whole : own.fault ≡ None
   pub animal : own.animal ≡ Some name
-  pub fixes : own.fixes ≡ fixes
+  pub all : own.fixes ≡ fixes
 
 -- where a corner of a report is
 abbrev pub corner_position : Corner → Position
 corner_position corner = position corner.easting corner.northing
+
+-- the corner at a position
+abbrev pub corner_at : Position → Corner
+corner_at p = record { easting = p.e; northing = p.n }
 
 -- a row of a report is that of the percent polygon of these points at its level
 abbrev pub IsPercentOf : List Position → PercentRow → Type 0
 IsPercentOf points row = IsPercentRow points row.level row
 
 -- a report says of an animal what these fixes say: their box, a row for each, and the corners of their polygon
-pub record AreSameFixes (fixes : List Fix) (animal : ReadAnimal) : Type 0 where
-  pub extent : IsExtent (points_of fixes) animal.extent
-  pub table : IsTable fixes animal.rows.items
-  pub polygon : IsPolygon (points_of fixes) (map corner_position animal.corners.items)
+pub record AreSameFixes (own : List Fix) (animal : ReadAnimal) : Type 0 where
+  pub extent : IsExtent (points_of own) animal.extent
+  pub table : IsTable own animal.rows.items
+  pub polygon : IsPolygon (points_of own) (map corner_position animal.corners.items)
 
 -- a report says of an animal what its track says, also of each percent polygon
 pub record IsSame (animal : ReadAnimal) (own : Reading) : Type 0 where

@@ -6,20 +6,23 @@ ghost use Rattle.range_lanes.specs.Extent.{IsExtent};
 ghost use Rattle.range_plane.specs.Fix.{fix_limit};
 ghost use Rattle.range_plane.specs.Polygon.{IsPolygon};
 ghost use Rattle.range_plane.specs.Row.{points_of};
-ghost use Rattle.page_levels.specs.Same.{AreSameFixes, IsOther, corner_position};
+ghost use Rattle.page_levels.specs.Same.{AreSameFixes, IsOther, corner_at, corner_position};
 
 use crate::fault::LevelFault;
 use page_report::{Corner, ReadAnimal};
 use range_estimator::{Estimator, Row};
 use range_lanes::{Extent, extremes};
 use range_plane::{Columns, Fix, OutOfMemory, Point};
-use std::alloc::Global;
+use std::alloc::{AllocError, Global};
 
 // Whether a box is that of some points.
 fn is_extent(points: &Columns, extent: Extent) -> bool
     ensures { IsTrue result ↔ IsExtent points.now.points extent }
 {
-    extremes(points) == Some(extent)
+    match extremes(points) {
+        Some(own) => own == extent,
+        None => false,
+    }
 }
 
 // Whether rows are those of the fixes that an estimator took.
@@ -29,14 +32,17 @@ fn are_rows(estimator: &Estimator, rows: &[Row]) -> bool
     estimator.rows() == rows
 }
 
-// Whether corners of a report are these points.
-fn are_same(points: &[Point], corners: &[Corner]) -> bool
-    ensures { IsTrue result ↔ (points.now ≡ map corner_position corners.now) }
+// The corners of a report at points.
+fn corners_at(alloc: Global, points: &[Point]) -> Result<Vec<Corner>, AllocError>
+    ensures { IfOk result (λ corners. corners.items ≡ map corner_at points.now) }
 {
     points
         .iter()
-        .map(|point| (point.e, point.n))
-        .eq(corners.iter().map(|corner| (corner.easting, corner.northing)))
+        .map(|point| Corner {
+            easting: point.e,
+            northing: point.n,
+        })
+        .collect(alloc)
 }
 
 // Whether corners are those of the polygon of the fixes that an estimator took.
@@ -48,7 +54,8 @@ fn are_corners(
     ensures { IfOk result (λ are. IsTrue are ↔ IsPolygon (points_of estimator.now.fixes) (map corner_position corners.now)) }
 {
     let polygon = estimator.polygon(alloc)?;
-    Ok(are_same(polygon.corners(), corners))
+    let own = corners_at(alloc, polygon.corners())?;
+    Ok(own.as_slice() == corners)
 }
 
 // Checks what an estimator says of the fixes of an animal.

@@ -40,10 +40,7 @@ fn scaled_distance(count: u64, eastings: u64, northings: u64, point: Point) -> u
 }
 
 // The distance of each point from the mean of all, scaled as above, and its index.
-pub(crate) fn entries_of(
-    alloc: Global,
-    points: &Columns,
-) -> Result<Vec<(u128, usize)>, OutOfMemory>
+pub(crate) fn entries_of(alloc: Global, points: &Columns) -> Result<Vec<(u128, usize)>, OutOfMemory>
     requires { length points.now.points ≤ fix_limit }
     ensures { IfOk result (λ entries. entries.items ≡ map (entry points.now.points) (indices points.now.points)) }
 {

@@ -2,6 +2,7 @@
 
 ghost use Rattle.std.specs.Prelude.{◌≡◌};
 ghost use Rattle.page_levels.specs.Same.{fault_of};
+ghost use Rattle.page_levels.specs.declared.fault.LevelFault.TheVariants as faults;
 
 use range_fixes::ReadFault;
 use range_plane::OutOfMemory;
@@ -27,29 +28,36 @@ pub enum LevelFault {
     OtherPercent { level: u8 },
 }
 
-// What a fault of a reader is here.
-pub(crate) fn fault_of(fault: ReadFault) -> LevelFault
-    ensures { result ≡ fault_of fault }
-{
-    match fault {
-        ReadFault::OutOfMemory => LevelFault::OutOfMemory,
-        other => LevelFault::Unread(other),
+impl From<ReadFault> for LevelFault {
+    ghost from_gives = { λ fault own. own ≡ fault_of fault };
+
+    fn from(fault: ReadFault) -> LevelFault {
+        match fault {
+            ReadFault::OutOfMemory => LevelFault::OutOfMemory,
+            other => LevelFault::Unread(other),
+        }
     }
 }
 
 impl From<OutOfMemory> for LevelFault {
+    ghost from_gives = { λ _ fault. fault ≡ faults.OutOfMemory };
+
     fn from(_refused: OutOfMemory) -> LevelFault {
         LevelFault::OutOfMemory
     }
 }
 
 impl From<AllocError> for LevelFault {
+    ghost from_gives = { λ _ fault. fault ≡ faults.OutOfMemory };
+
     fn from(_refused: AllocError) -> LevelFault {
         LevelFault::OutOfMemory
     }
 }
 
 impl<T: Drop> From<AllocFailed<T>> for LevelFault {
+    ghost from_gives = { λ _ fault. fault ≡ faults.OutOfMemory };
+
     fn from(_refused: AllocFailed<T>) -> LevelFault {
         LevelFault::OutOfMemory
     }

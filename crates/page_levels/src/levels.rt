@@ -1,6 +1,6 @@
 // What the map draws of an animal.
 
-ghost use Rattle.std.specs.Prelude.{◌≤◌, IfErr, IfOk, length};
+ghost use Rattle.std.specs.Prelude.{◌≡◌, ◌≤◌, IfErr, IfOk, length};
 ghost use Rattle.std.specs.List.{AllZip};
 ghost use Rattle.range_fixes.specs.Reading.{reading};
 ghost use Rattle.range_plane.specs.Fix.{fix_limit};
@@ -16,8 +16,8 @@ use crate::kept::{polygon_at, ranked_points};
 use crate::percents::check_percents;
 use crate::track::fixes_of;
 use page_report::ReadAnimal;
-use range_plane::{OutOfMemory, Point, Scale};
-use std::alloc::Global;
+use range_plane::{Fix, OutOfMemory, Point, Scale};
+use std::alloc::{AllocError, Global};
 
 /// What the map draws of an animal, in whole units of the report: polygons by their corners, counterclockwise from the
 /// westernmost, of two such the southern, and the fixes in their order.
@@ -44,6 +44,13 @@ fn polygons_of(
     Ok(polygons)
 }
 
+// The points of fixes.
+fn points_of(alloc: Global, fixes: &[Fix]) -> Result<Vec<Point>, AllocError>
+    ensures { IfOk result (λ points. points.items ≡ points_of fixes.now) }
+{
+    fixes.iter().map(|fix| fix.at).collect(alloc)
+}
+
 /// The fixes of a track, and for each level the polygon of the fixes that it keeps: so many per cent, rounded up, of those nearest
 /// to the mean of all. The levels stand from the highest on; 100 keeps all. The track is a file of `homerange` whose coordinates
 /// are in `unit`, and `animal` is what the report says of it.
@@ -68,6 +75,6 @@ pub fn levels_of(
     check_percents(alloc, &ranked, &animal.percents)?;
     Ok(Drawn {
         polygons: polygons_of(alloc, &ranked, levels)?,
-        fixes: fixes.iter().map(|fix| fix.at).collect(alloc)?,
+        fixes: points_of(alloc, &fixes)?,
     })
 }

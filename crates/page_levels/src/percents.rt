@@ -1,14 +1,24 @@
 // The percent polygons of a report.
 
-ghost use Rattle.std.specs.Prelude.{◌↔◌, ◌≤◌, All, IfErr, IfOk, IsTrue, length};
+ghost use Rattle.std.specs.Prelude.{◌≡◌, ◌↔◌, ◌≤◌, pos, All, IfErr, IfOk, IsTrue, length};
 ghost use Rattle.range_plane.specs.Fix.{fix_limit};
+ghost use Rattle.range_plane.specs.Polygon.{area2};
 ghost use Rattle.page_levels.specs.Kept.{IsOtherRow, IsRowOfFirst};
 
 use crate::fault::LevelFault;
 use crate::kept::{first_kept, polygon_at};
-use range_plane::{OutOfMemory, Point};
+use range_plane::{OutOfMemory, Point, Polygon};
 use range_stats::PercentRow;
 use std::alloc::Global;
+
+// Whether a row has so many points and this polygon.
+fn has_polygon(row: PercentRow, kept: usize, polygon: &Polygon) -> bool
+    ensures { IsTrue result ↔ (row.kept ≡ kept) × (row.corners ≡ length polygon.now) × (pos row.area2 ≡ area2 polygon.now) }
+{
+    row.kept as usize == kept
+        && row.corners as usize == polygon.corners().len()
+        && row.area2 == polygon.area2()
+}
 
 // Whether a row is that of the points that its level keeps, of points by their distance from the mean of all.
 fn is_row(alloc: Global, ranked: &[Point], row: PercentRow) -> Result<bool, OutOfMemory>
@@ -17,9 +27,7 @@ fn is_row(alloc: Global, ranked: &[Point], row: PercentRow) -> Result<bool, OutO
 {
     let kept = first_kept(ranked, row.level).len();
     let polygon = polygon_at(alloc, ranked, row.level)?;
-    Ok(row.kept as usize == kept
-        && row.corners as usize == polygon.corners().len()
-        && row.area2 == polygon.area2())
+    Ok(has_polygon(row, kept, &polygon))
 }
 
 // Checks the percent polygons of a report.

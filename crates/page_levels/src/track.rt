@@ -1,14 +1,21 @@
 // The fixes of a track.
 
-ghost use Rattle.std.specs.Prelude.{◌≤◌, IfErr, IfOk, length};
+ghost use Rattle.std.specs.Prelude.{◌≡◌, ◌↔◌, ◌≤◌, IfErr, IfOk, IsTrue, Some, length, option_map};
 ghost use Rattle.range_fixes.specs.Reading.{reading};
 ghost use Rattle.range_plane.specs.Fix.{fix_limit};
 ghost use Rattle.page_levels.specs.Same.{IsTrackOf, IsUnread};
 
-use crate::fault::{LevelFault, fault_of};
+use crate::fault::LevelFault;
 use range_fixes::FixReader;
 use range_plane::{Fix, Scale};
 use std::alloc::Global;
+
+// Whether a name is this one.
+fn is_named(name: Option<&[u8]>, wanted: &[u8]) -> bool
+    ensures { IsTrue result ↔ (option_map (λ own. own.now) name.entry ≡ Some wanted.now) }
+{
+    name == Some(wanted)
+}
 
 // The fixes of a track, which is that of the animal of this name.
 pub(crate) fn fixes_of(
@@ -23,10 +30,10 @@ pub(crate) fn fixes_of(
 {
     let mut reader = FixReader::new(alloc, track, unit);
     let mut fixes = Vec::new(alloc);
-    while let Some(fix) = reader.next().map_err(fault_of)? {
+    while let Some(fix) = reader.next()? {
         fixes.push(fix)?;
     }
-    if reader.name() == Some(name) {
+    if is_named(reader.name(), name) {
         Ok(fixes)
     } else {
         Err(LevelFault::OtherAnimal)

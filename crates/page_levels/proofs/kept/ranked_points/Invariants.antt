@@ -4,7 +4,7 @@ use Rattle.page_levels.proofs.kept.ranked_points.Given as goal
 
 abbrev pub invariant-loop-entry : goal.invariant-loop-entry
 invariant-loop-entry l = record {
-  ranked : l.ranked.items ≡ map (λ a. at l.points.points a.1) (take l.entry-index l.entries.items);
+  ranked : l.ranked.items ≡ map (λ a. at l.points.points a.1) (take l.entry-index l.entry-items);
   count : vec_len l.ranked ≡ l.entry-index;
-  room : vec_len l.entries ≤ vec_capacity l.ranked;
+  room : length l.entry-items ≤ vec_capacity l.ranked;
 }
