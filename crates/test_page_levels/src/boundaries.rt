@@ -5,7 +5,8 @@ use page_boundary::{BoundaryFault, read_boundary};
 use page_map::Ground;
 use std::alloc::Global;
 
-const RINGS: &str = "ring,easting,northing\n1,0.000,-0.001\n1,999999999.999,07.250\n2,-999999999.999,3.500\n";
+const RINGS: &str =
+    "ring,easting,northing\n1,0.000,-0.001\n1,999999999.999,07.250\n2,-999999999.999,3.500\n";
 
 const FIRST: [(i64, i64); 2] = [(0, -1), (999_999_999_999, 7_250)];
 
@@ -31,7 +32,10 @@ const REFUSED: [(&str, usize); 21] = [
     ("ring,easting,northing\n1,1.000,2.000,3.000\n", 2),
     ("ring,easting,northing\n1,1.000, 2.000\n", 2),
     ("ring,easting,northing\n1,0.000,0.000\n3,0.000,0.000\n", 3),
-    ("ring,easting,northing\n1,0.000,0.000\n1,0,0\n2,0.000,0.000\n", 3),
+    (
+        "ring,easting,northing\n1,0.000,0.000\n1,0,0\n2,0.000,0.000\n",
+        3,
+    ),
     (
         "ring,easting,northing\n1,0.000,0.000\n2,0.000,0.000\n1,1.000,0.000\n",
         4,

@@ -7,10 +7,12 @@ use range_fixes::ReadFault;
 use range_plane::{Point, Scale};
 use std::alloc::{AllocError, Global};
 
-const TRACK: &str = "animal,second,easting,northing\nfox,10,100,200\nfox,20,130,240\nfox,30,90,260\nfox,40,110,230\nfox,50,105,225\n\
+const TRACK: &str =
+    "animal,second,easting,northing\nfox,10,100,200\nfox,20,130,240\nfox,30,90,260\nfox,40,110,230\nfox,50,105,225\n\
     fox,60,105,225\nfox,70,400,230\nfox,80,100,210\nfox,90,120,100\nfox,100,112,228\n";
 
-const REPORT: &str = "animal,fox,fixes,10\nbox,fox,90,100,400,260\nrow,fox,1,10,1,0\nrow,fox,2,20,2,0\nrow,fox,3,30,3,2200\n\
+const REPORT: &str =
+    "animal,fox,fixes,10\nbox,fox,90,100,400,260\nrow,fox,1,10,1,0\nrow,fox,2,20,2,0\nrow,fox,3,30,3,2200\n\
     row,fox,4,40,3,2200\nrow,fox,5,50,3,2200\nrow,fox,6,60,3,2200\nrow,fox,7,70,3,18300\nrow,fox,8,80,3,18300\n\
     row,fox,9,90,4,48900\nrow,fox,10,100,4,48900\ncorner,fox,1,90,260\ncorner,fox,2,100,200\ncorner,fox,3,120,100\n\
     corner,fox,4,400,230\npercent,fox,95,10,4,48900\npercent,fox,80,8,3,2200\npercent,fox,50,5,4,80\nend,1\n";
@@ -78,7 +80,8 @@ const CHANGED: [(&str, &str, LevelFault); 9] = [
 const SQUARE: &str =
     "animal,second,easting,northing\nowl,1,10,10\nowl,2,14,10\nowl,3,14,14\nowl,4,10,14\n";
 
-const SQUARE_REPORT: &str = "animal,owl,fixes,4\nbox,owl,10,10,14,14\nrow,owl,1,1,1,0\nrow,owl,2,2,2,0\nrow,owl,3,3,3,16\n\
+const SQUARE_REPORT: &str =
+    "animal,owl,fixes,4\nbox,owl,10,10,14,14\nrow,owl,1,1,1,0\nrow,owl,2,2,2,0\nrow,owl,3,3,3,16\n\
     row,owl,4,4,4,32\ncorner,owl,1,10,10\ncorner,owl,2,14,10\ncorner,owl,3,14,14\ncorner,owl,4,10,14\nend,1\n";
 
 // What is drawn of the one animal of a report.
@@ -128,7 +131,10 @@ fn levels_keep_the_nearest_and_their_corners_are_those_of_the_package(rt: HostRu
         return;
     };
     assert!(rt; are_at(&drawn.fixes, &FIXES), "fixes");
-    assert!(rt; drawn.polygons.len() == POLYGONS.len(), "a polygon for each level");
+    assert!(rt;
+        drawn.polygons.len() == POLYGONS.len(),
+        "a polygon for each level"
+    );
     for (polygon, corners) in drawn.polygons.iter().zip(POLYGONS) {
         assert!(rt; are_at(polygon, corners), "corners");
     }
