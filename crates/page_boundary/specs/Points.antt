@@ -14,7 +14,7 @@ abbrev pub RingPlace : Type 0
 RingPlace = ℕ × Place
 
 abbrev pub place_of : Ground → Place
-place_of ground = (ground.east, ground.north)
+place_of at = (at.east, at.north)
 
 -- the value of digits, of which there are at most so many
 abbrev pub digits_in : ℕ → List ℕ → Option ℕ

@@ -1,10 +1,12 @@
 // The rings of a boundary.
 
 ghost use Rattle.std.specs.Prelude.{◌≡◌, ◌+◌, ◌≤◌, ◌^◌, [], IfErr, IfOk, Ok, length};
+ghost use Rattle.page_boundary.specs.declared.boundary.BoundaryFault.TheVariants as faults;
 ghost use Rattle.page_boundary.specs.Rings.{IsFault, boundary_in, places_of, rings_from};
 ghost use Rattle.page_report.specs.Reading.{parts};
 
-use crate::lines::{line_of, point_in};
+use crate::lines::point_in;
+use crate::numbers::cut;
 use crate::rings::add_point;
 use page_map::Ground;
 use std::alloc::{AllocError, Global};
@@ -21,6 +23,8 @@ pub enum BoundaryFault {
 }
 
 impl From<AllocError> for BoundaryFault {
+    ghost from_gives = { λ _ fault. fault ≡ faults.OutOfMemory };
+
     fn from(_refused: AllocError) -> BoundaryFault {
         BoundaryFault::OutOfMemory
     }
@@ -35,7 +39,7 @@ fn rings_in(alloc: Global, text: &[u8]) -> Result<Vec<Vec<Ground>>, BoundaryFaul
     let mut rings = Vec::new(alloc);
     let mut rest = text;
     let mut number = 2;
-    while let Some((line, behind)) = line_of(rest) {
+    while let Some((line, behind)) = cut(rest, b'\n') {
         let Some(point) = point_in(line) else {
             return Err(BoundaryFault::Line { number });
         };
@@ -62,7 +66,7 @@ pub fn read_boundary(alloc: Global, text: &[u8]) -> Result<Vec<Vec<Ground>>, Bou
     ensures rings { IfOk result (λ rings. boundary_in text.now ≡ Ok (places_of rings.items)) }
     ensures fault { IfErr result (IsFault (boundary_in text.now)) }
 {
-    match line_of(text) {
+    match cut(text, b'\n') {
         Some((titles, behind)) if titles == TITLES => rings_in(alloc, behind),
         _ => Err(BoundaryFault::Line { number: 1 }),
     }

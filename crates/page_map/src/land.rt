@@ -1,6 +1,6 @@
 // Points of the ground.
 
-ghost use Rattle.std.specs.Prelude.{◌≡◌, ◌^◌, true};
+ghost use Rattle.std.specs.Prelude.{◌≡◌, ◌↔◌, ◌^◌, IfSome, IsSome, IsTrue};
 ghost use Rattle.range_plane.specs.Plane.{IsCoordinate};
 ghost use Rattle.page_drawing.specs.Bounds.{IsWithin};
 
@@ -29,14 +29,17 @@ pub struct Plane {
 
 // Whether a coordinate is within the limit.
 fn is_within(coordinate: i64) -> bool
-    ensures { result ≡ true → IsWithin (2 ^ 42) coordinate }
+    ensures { IsTrue result ↔ IsWithin (2 ^ 42) coordinate }
 {
     -GROUND_LIMIT <= coordinate && coordinate <= GROUND_LIMIT
 }
 
 impl Ground {
     /// The point at these coordinates; `None` where one of them is outside the limits.
-    pub fn new(east: i64, north: i64) -> Option<Ground> {
+    pub fn new(east: i64, north: i64) -> Option<Ground>
+        ensures place { IfSome result (λ at. (at.east ≡ east) × (at.north ≡ north)) }
+        ensures within { IsSome result ↔ (IsWithin (2 ^ 42) east × IsWithin (2 ^ 42) north) }
+    {
         if is_within(east) && is_within(north) {
             Some(Ground { east, north })
         } else {

@@ -1,0 +1,5 @@
+//! Tests of what maps draw of animals, and of boundaries.
+#![tactic(auto)]
+
+mod boundaries;
+mod levels;
