@@ -17,7 +17,8 @@ pub(crate) struct FolderFiles {
     pub report: Vec<u8>,
     pub record: Option<Vec<u8>>,
     pub boundary: Option<Vec<u8>>,
-    pub tracks: Vec<Track>,
+    /// None where there is no folder of tracks.
+    pub tracks: Option<Vec<Track>>,
 }
 
 // That a path is no plain file.
@@ -80,15 +81,16 @@ fn push_track<R: Files + AllocGlobal>(
     Ok(())
 }
 
-// The tracks of a folder.
+// The tracks of a folder, if it is there.
 fn tracks_in<R: Files + AllocGlobal + Clone + Drop>(
     rt: &R,
     path: &str,
-) -> Result<Vec<Track>, Stop> {
+) -> Result<Option<Vec<Track>>, Stop> {
     let alloc = rt.alloc();
     let mut tracks = Vec::new(alloc);
     let entries = match fs::read_dir(rt, path) {
         Ok(entries) => entries,
+        Err(error) if error.kind() == ErrorKind::NotFound => return Ok(None),
         Err(error) => return Err(unread(alloc, path, &error)),
     };
     for entry in entries {
@@ -97,7 +99,7 @@ fn tracks_in<R: Files + AllocGlobal + Clone + Drop>(
             Err(error) => return Err(unread(alloc, path, &error)),
         }
     }
-    Ok(tracks)
+    Ok(Some(tracks))
 }
 
 /// Reads the files of a folder.

@@ -40,6 +40,7 @@ fn words_of<'a>(words: &PageWords<'a>, clock: &'a Clock) -> Words<'a> {
         system: bytes(words.system),
         shift: words.shift,
         differences: words.differences,
+        is_alone: words.is_alone,
     }
 }
 
@@ -58,7 +59,7 @@ pub(crate) fn make<R: Files + AllocGlobal + Clone + Drop>(
         report: &read.report,
         record: read.record.as_deref(),
         boundary: read.boundary.as_deref(),
-        tracks: &read.tracks,
+        tracks: read.tracks.as_deref(),
     };
     let made = files_of(rt.alloc(), &given, &words_of(words, &clock))?;
     write_files(rt, words.folder, &made)

@@ -24,6 +24,8 @@ pub struct Words<'a> {
     pub shift: (i32, i32),
     /// By how much areas on the grid differ from those on the ground; of a zone that the record names it is computed.
     pub differences: Option<Differences>,
+    /// Whether the page is handed in without its folder.
+    pub is_alone: bool,
 }
 
 /// The bytes of the files of a folder.
@@ -32,5 +34,6 @@ pub struct Given<'a> {
     pub report: &'a [u8],
     pub record: Option<&'a [u8]>,
     pub boundary: Option<&'a [u8]>,
-    pub tracks: &'a [Track],
+    /// None where only the report is known.
+    pub tracks: Option<&'a [Track]>,
 }

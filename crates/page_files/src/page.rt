@@ -1,15 +1,14 @@
 // The page of a folder.
 
-use crate::drawn::shapes_of;
+use crate::drawn::drawn_of;
 use crate::fault::{PageFault, refused};
 use crate::given::{Given, Words};
 use crate::told::{Tally, lefts_of_all, totals_of, unused_of};
-use crate::tracks::tracks_of;
 use page_ground::{Differences, differences_of, push_system};
 use page_html::{Page, push_page};
 use page_map::{Ground, Plane, Shape};
 use page_record::{Record, system_of};
-use page_sections::{Shown, falling_levels};
+use page_sections::Shown;
 use sha2::{Digest, Sha256};
 use std::alloc::{AllocError, Global};
 
@@ -100,24 +99,25 @@ pub(crate) fn page_of(
     words: &Words,
     beside: &Beside,
 ) -> Result<Vec<u8>, PageFault> {
-    let tracks = tracks_of(alloc, shown.report, given.tracks)?;
-    let levels = falling_levels(alloc, shown.report)?;
-    let shapes = shapes_of(alloc, shown.report, &tracks, &levels)?;
+    let drawn = drawn_of(alloc, shown.report, given.tracks)?;
     let plane = plane_of(alloc, shown, words, beside.record)?;
     let system = system_text(alloc, words, beside.record)?;
     let unused = unused_of(alloc, shown.report, beside.tally)?;
     let left = lefts_of_all(alloc, beside.record)?;
+    let sum = sum_of(given.report);
     let page = Page {
         shown: *shown,
         record: beside.record,
         totals: totals_of(beside.record, &left),
         unused: &unused,
-        shapes: &shapes,
+        shapes: &drawn.shapes,
+        levels: &drawn.levels,
+        has_fixes: drawn.has_fixes,
         plane,
         boundary: beside.boundary,
         system: &system,
-        differences: differences(words, beside.record, plane, &shapes),
-        report_sum: &sum_of(given.report),
+        differences: differences(words, beside.record, plane, &drawn.shapes),
+        report_sum: if words.is_alone { None } else { Some(&sum) },
         words: words.page,
         made: words.made,
     };

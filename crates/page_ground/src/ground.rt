@@ -53,11 +53,16 @@ pub fn push_ground(
     text: &mut Vec<u8>,
     differences: Option<Differences>,
     drawn: &Maps,
+    has_fixes: bool,
     has_boundary: bool,
 ) -> Result<(), AllocError> {
     text.extend_from_slice(b"The grid is in metres. ")?;
     push_differences(text, differences)?;
-    text.extend_from_slice(b" Dots are fixes; of those that would cover each other one is drawn.")?;
+    if has_fixes {
+        text.extend_from_slice(
+            b" Dots are fixes; of those that would cover each other one is drawn.",
+        )?;
+    }
     if has_boundary && !drawn.has_boundary {
         text.extend_from_slice(b" The boundary lies outside this map.")?;
     }

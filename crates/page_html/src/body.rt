@@ -11,9 +11,9 @@ use page_facts::Facts;
 use page_ground::{push_ground, push_key};
 use page_map::draw_maps;
 use page_sections::{
-    Origin, Shown, Sums, falling_levels, push_animals_table, push_left_out, push_method,
-    push_options, push_overlap_sentence, push_overlap_table, push_said, push_sentences, push_sums,
-    push_verify, push_without_range,
+    Origin, Shown, Sums, push_animals_table, push_left_out, push_method, push_options,
+    push_overlap_sentence, push_overlap_table, push_said, push_sentences, push_sums, push_verify,
+    push_without_range,
 };
 use std::alloc::{AllocError, Global};
 
@@ -44,10 +44,15 @@ fn push_maps(alloc: Global, text: &mut Vec<u8>, page: &Page) -> Result<(), Alloc
     text.extend_from_slice(BEFORE_MAPS)?;
     text.extend_from_slice(&maps.drawings)?;
     text.extend_from_slice(BEFORE_KEY)?;
-    let levels = falling_levels(alloc, page.shown.report)?;
-    push_key(text, &levels, boundary, &page.shown.report.animals)?;
+    push_key(text, page.levels, boundary, &page.shown.report.animals)?;
     text.extend_from_slice(BEFORE_GROUND)?;
-    push_ground(text, page.differences, &maps, boundary.is_some())
+    push_ground(
+        text,
+        page.differences,
+        &maps,
+        page.has_fixes,
+        boundary.is_some(),
+    )
 }
 
 // The facts of animals.
@@ -117,20 +122,19 @@ fn origin_of<'a>(page: &Page<'a>) -> Origin<'a> {
 
 // Appends the checksums.
 fn push_all_sums(text: &mut Vec<u8>, page: &Page) -> Result<(), AllocError> {
-    let origin = origin_of(page);
     let sum = page
         .made
         .sum
         .unwrap_or(b"not known, since the program was not found");
     let sums = Sums {
-        origin,
+        origin: origin_of(page),
         report: page.report_sum,
         program: (page.made.version, sum),
     };
     text.extend_from_slice(BEFORE_CHECKSUMS)?;
     push_sums(text, &sums)?;
     text.extend_from_slice(BEFORE_VERIFY)?;
-    push_verify(text, matches!(origin, Origin::Export(..)))?;
+    push_verify(text, &sums)?;
     text.extend_from_slice(BEHIND_VERIFY)
 }
 

@@ -19,8 +19,11 @@ pub struct Page<'a> {
     pub totals: Option<Totals<'a>>,
     /// The animals that have no range.
     pub unused: &'a [Unused<'a>],
-    /// What is drawn of each animal, in the order of the report, and where whole units of the report lie.
+    /// What is drawn of each animal, in the order of the report, for these levels from the highest on, and whether fixes are drawn.
     pub shapes: &'a [Shape],
+    pub levels: &'a [u8],
+    pub has_fixes: bool,
+    /// Where whole units of the report lie.
     pub plane: Plane,
     /// The rings of the boundary; none where there is no boundary.
     pub boundary: Option<&'a [Vec<Ground>]>,
@@ -28,8 +31,8 @@ pub struct Page<'a> {
     pub system: &'a [u8],
     /// By how much areas on its grid differ from those on the ground; none where it is not known.
     pub differences: Option<Differences>,
-    /// The SHA-256 checksum of the report, in 64 digits.
-    pub report_sum: &'a [u8],
+    /// The SHA-256 checksum of the report, in 64 digits; none where its folder is not handed in.
+    pub report_sum: Option<&'a [u8]>,
     pub words: Words<'a>,
     pub made: Made<'a>,
 }

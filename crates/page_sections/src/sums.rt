@@ -18,7 +18,8 @@ pub enum Origin<'a> {
 #[derive(Clone, Copy)]
 pub struct Sums<'a> {
     pub origin: Origin<'a>,
-    pub report: &'a [u8],
+    /// None where the folder of the report is not handed in.
+    pub report: Option<&'a [u8]>,
     /// What the program says of its version, and its checksum.
     pub program: (&'a [u8], &'a [u8]),
 }
@@ -46,6 +47,22 @@ fn push_export(text: &mut Vec<u8>, origin: Origin) -> Result<(), AllocError> {
     push_sum(text, b"export_sha256", sum)
 }
 
+// Appends the line of the report.
+fn push_report(text: &mut Vec<u8>, report: Option<&[u8]>) -> Result<(), AllocError> {
+    text.extend_from_slice(b"\n<tr><th>Report</th><td>")?;
+    match report {
+        Some(sum) => {
+            text.extend_from_slice(b"report.txt")?;
+            push_sum(text, b"report_sha256", sum)
+        }
+        None => push_sum(
+            text,
+            b"report_sha256",
+            b"none was kept: the ranges were made of a data frame",
+        ),
+    }
+}
+
 /// Appends the lines of checksums.
 ///
 /// # Errors
@@ -53,11 +70,24 @@ fn push_export(text: &mut Vec<u8>, origin: Origin) -> Result<(), AllocError> {
 /// Memory ran out.
 pub fn push_sums(text: &mut Vec<u8>, sums: &Sums) -> Result<(), AllocError> {
     push_export(text, sums.origin)?;
-    text.extend_from_slice(b"\n<tr><th>Report</th><td>report.txt")?;
-    push_sum(text, b"report_sha256", sums.report)?;
+    push_report(text, sums.report)?;
     text.extend_from_slice(b"\n<tr><th>Program</th><td>")?;
     push_escaped(text, sums.program.0)?;
     push_sum(text, b"program_sha256", sums.program.1)
+}
+
+// Appends how a folder is checked, beside the export or alone.
+fn push_verify_folder(text: &mut Vec<u8>, origin: Origin) -> Result<(), AllocError> {
+    let words: &[u8] = match origin {
+        Origin::Export(..) => b"FOLDER EXPORT",
+        Origin::Data | Origin::Unknown => b"FOLDER",
+    };
+    text.extend_from_slice(
+        b"This checks the folder that is handed in, and says what held and what was not looked at, in ",
+    )?;
+    text.extend_from_slice(b"a clone of homerange: <code>python3 tools/verify.py ")?;
+    text.extend_from_slice(words)?;
+    text.extend_from_slice(b"</code>")
 }
 
 /// Appends how all that is handed in is checked.
@@ -65,16 +95,12 @@ pub fn push_sums(text: &mut Vec<u8>, sums: &Sums) -> Result<(), AllocError> {
 /// # Errors
 ///
 /// Memory ran out.
-pub fn push_verify(text: &mut Vec<u8>, has_export: bool) -> Result<(), AllocError> {
-    let words: &[u8] = if has_export {
-        b"FOLDER EXPORT"
-    } else {
-        b"FOLDER"
-    };
+pub fn push_verify(text: &mut Vec<u8>, sums: &Sums) -> Result<(), AllocError> {
+    text.extend_from_slice(b"Sums are SHA-256. ")?;
+    if sums.report.is_some() {
+        return push_verify_folder(text, sums.origin);
+    }
     text.extend_from_slice(
-        b"Sums are SHA-256. This checks the folder that is handed in, and says what held and what was not looked at, in ",
-    )?;
-    text.extend_from_slice(b"a clone of homerange: <code>python3 tools/verify.py ")?;
-    text.extend_from_slice(words)?;
-    text.extend_from_slice(b"</code>")
+        b"No files of fixes and no report were kept, so this page alone cannot be verified.",
+    )
 }

@@ -1,7 +1,7 @@
 // The words that the program knows, and what `clap` finds in those that are given. Its help is written in `help.rt`.
 
 use crate::version::VERSION;
-use clap::{Arg, ArgMatches, Command, Error};
+use clap::{Arg, ArgAction, ArgMatches, Command, Error};
 use std::alloc::{AllocError, Global};
 
 // An option whose value is any text, which may begin with a hyphen.
@@ -33,6 +33,11 @@ fn whole_command<'a>(alloc: Global) -> Result<Command<'a>, AllocError> {
         .arg(text_option(alloc, "made", "DAY"))?
         .arg(text_option(alloc, "program", "TEXT"))?
         .arg(text_option(alloc, "program-sum", "SUM"))?
+        .arg(
+            Arg::new(alloc, "alone")
+                .long("alone")
+                .action(ArgAction::SetTrue),
+        )?
         .arg(Arg::new(alloc, "FOLDER").value_name("FOLDER"))
 }
 

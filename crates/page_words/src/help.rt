@@ -18,7 +18,8 @@ report.txt and the tracks that it was made of in tracks: into the folder it
 writes summary.csv, animals.csv, overlaps.csv and report.html, over those that
 are there. It reads tracks/split.txt, where that is there, and boundary.csv: the
 rings of a boundary, which the map shows. Report, record and tracks have to
-agree; else they are refused.
+agree; else they are refused. Without tracks the map shows no fixes, and the
+polygons of all fixes alone.
 
 Usage: homerange-page [OPTIONS] FOLDER
 
@@ -45,6 +46,8 @@ Options:
       --program <TEXT>         What the program that made the report says of its
                                version [default: homerange]
       --program-sum <SUM>      Its SHA-256 checksum
+      --alone                  The page is handed in without its folder, so that
+                               it has no checksum of the report
   -h, --help                   Print help
   -V, --version                Print version
 

@@ -33,6 +33,8 @@ pub struct PageWords<'a> {
     pub program: &'a str,
     /// Its SHA-256 checksum, in 64 digits.
     pub program_sum: Option<&'a str>,
+    /// Whether the page is handed in without its folder.
+    pub is_alone: bool,
 }
 
 // A text that is not empty, if it was given.
@@ -67,6 +69,7 @@ fn words_in<'a>(alloc: Global, matches: &ArgMatches<'a>) -> Result<PageWords<'a>
         made: day_in(alloc, matches.get_str("made"))?,
         program: text_in(matches, "program").unwrap_or("homerange"),
         program_sum: sum_in(alloc, matches.get_str("program-sum"))?,
+        is_alone: matches.get_flag("alone"),
     })
 }
 

@@ -46,6 +46,7 @@ pub(crate) fn typed(clock: &Clock) -> Words<'_> {
         system: None,
         shift: (0, 0),
         differences: None,
+        is_alone: false,
     }
 }
 
@@ -57,7 +58,7 @@ fn files(alloc: Global) -> Result<Files, PageFault> {
         report: REPORT.as_bytes(),
         record: Some(RECORD.as_bytes()),
         boundary: Some(BOUNDARY.as_bytes()),
-        tracks: &tracks,
+        tracks: Some(&tracks),
     };
     files_of(alloc, &given, &typed(&clock))
 }

@@ -91,7 +91,7 @@ fn ground(
         has_boundary: false,
     };
     let mut text = Vec::new(alloc);
-    push_ground(&mut text, differences, &maps, has_boundary)?;
+    push_ground(&mut text, differences, &maps, true, has_boundary)?;
     Ok(text)
 }
 

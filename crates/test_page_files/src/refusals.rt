@@ -23,7 +23,7 @@ fn refusal_of_tracks(alloc: Global, first: &str, second: &str) -> Result<String,
         report: REPORT.as_bytes(),
         record: Some(RECORD.as_bytes()),
         boundary: None,
-        tracks: &tracks,
+        tracks: Some(&tracks),
     };
     refusal(alloc, &given)
 }
@@ -40,7 +40,7 @@ fn refusal_of_texts(
         report: report.as_bytes(),
         record,
         boundary: Some(boundary.as_bytes()),
-        tracks: &tracks,
+        tracks: Some(&tracks),
     };
     refusal(alloc, &given)
 }

@@ -100,11 +100,11 @@ fn sums(alloc: Global, origin: Origin) -> Result<(Vec<u8>, Vec<u8>), AllocError>
     let (mut text, mut words) = (Vec::new(alloc), Vec::new(alloc));
     let sums = Sums {
         origin,
-        report: ONES,
+        report: Some(ONES),
         program: (b"homerange 1.0.0", TWOS),
     };
     push_sums(&mut text, &sums)?;
-    push_verify(&mut words, matches!(origin, Origin::Export(..)))?;
+    push_verify(&mut words, &sums)?;
     Ok((text, words))
 }
 
