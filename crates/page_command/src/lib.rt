@@ -2,11 +2,11 @@
 //! that is told in one line and a status.
 #![tactic(auto)]
 
-mod answer;
 mod clock;
+mod exit_status;
 mod folder;
 mod make;
 mod stop;
 mod write;
 
-pub use answer::answer;
+pub use exit_status::answer;
