@@ -21,6 +21,14 @@ pub(crate) struct AllDrawn {
     pub has_fixes: bool,
 }
 
+// The number of the animal at a place, counted from 1.
+fn number_at(place: usize) -> u32 {
+    match u32::try_from(place) {
+        Ok(place) => place.saturating_add(1),
+        Err(_greater) => u32::MAX,
+    }
+}
+
 // The corners of the polygon of all fixes of an animal.
 fn points_of(alloc: Global, animal: &ReadAnimal) -> Result<Vec<Point>, AllocError> {
     let mut points = Vec::new(alloc);
@@ -39,7 +47,7 @@ fn shapes_of_report(alloc: Global, report: &Report) -> Result<Vec<Shape>, AllocE
         let mut polygons = Vec::new(alloc);
         polygons.push(points_of(alloc, animal)?)?;
         shapes.push(Shape {
-            number: (place as u32).saturating_add(1),
+            number: number_at(place),
             polygons,
             fixes: Vec::new(alloc),
         })?;
@@ -61,7 +69,7 @@ fn shapes_of(
             Err(fault) => return Err(track_fault(alloc, &track.file, fault)),
         };
         shapes.push(Shape {
-            number: (place as u32).saturating_add(1),
+            number: number_at(place),
             polygons: drawn.polygons,
             fixes: drawn.fixes,
         })?;

@@ -8,7 +8,7 @@ ghost use Rattle.page_tables.specs.Summary.{summary};
 use crate::agree::check_agrees;
 use crate::fault::{PageFault, record_fault, refused, report_fault};
 use crate::given::{Given, Words};
-use crate::page::{Beside, page_of};
+use crate::page::page_of;
 use crate::told::{reasons_of, tally_of, told_of_all};
 use page_boundary::{BoundaryFault, read_boundary};
 use page_facts::are_dates;
@@ -108,12 +108,12 @@ fn animals_of(alloc: Global, shown: &Shown) -> Result<Vec<u8>, AllocError> {
 }
 
 // The table of animals and the page of a report, where there is a record or none.
-fn rest_of(
+fn rest_of<'a>(
     alloc: Global,
-    report: &Report,
-    given: &Given,
-    words: &Words,
-    record: Option<&Record>,
+    report: &'a Report,
+    given: &'a Given<'a>,
+    words: &'a Words<'a>,
+    record: Option<&'a Record>,
 ) -> Result<(Vec<u8>, Vec<u8>), PageFault> {
     let tally = tally_of(alloc, record)?;
     let reasons = reasons_of(alloc, report, &tally)?;
@@ -128,12 +128,8 @@ fn rest_of(
         zone: words.zone,
     };
     let rings = rings_of(alloc, given.boundary)?;
-    let beside = Beside {
-        record,
-        tally: &tally,
-        boundary: rings.as_deref(),
-    };
-    let page = page_of(alloc, &shown, given, words, &beside)?;
+    let boundary = rings.as_deref();
+    let page = page_of(alloc, &shown, given, words, record, &tally, boundary)?;
     Ok((animals_of(alloc, &shown)?, page))
 }
 

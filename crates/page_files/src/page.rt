@@ -81,42 +81,34 @@ fn differences(
     }
 }
 
-// What was read beside the report.
-#[derive(Clone, Copy)]
-pub(crate) struct Beside<'a> {
-    pub record: Option<&'a Record>,
-    // The counts of the record by animals.
-    pub tally: &'a Tally,
-    // The rings of the boundary, if there is one.
-    pub boundary: Option<&'a [Vec<Ground>]>,
-}
-
 // The page of what is shown.
 pub(crate) fn page_of(
     alloc: Global,
     shown: &Shown,
     given: &Given,
     words: &Words,
-    beside: &Beside,
+    record: Option<&Record>,
+    tally: &Tally,
+    boundary: Option<&[Vec<Ground>]>,
 ) -> Result<Vec<u8>, PageFault> {
     let drawn = drawn_of(alloc, shown.report, given.tracks)?;
-    let plane = plane_of(alloc, shown, words, beside.record)?;
-    let system = system_text(alloc, words, beside.record)?;
-    let unused = unused_of(alloc, shown.report, beside.tally)?;
-    let left = lefts_of_all(alloc, beside.record)?;
+    let plane = plane_of(alloc, shown, words, record)?;
+    let system = system_text(alloc, words, record)?;
+    let unused = unused_of(alloc, shown.report, tally)?;
+    let left = lefts_of_all(alloc, record)?;
     let sum = sum_of(given.report);
     let page = Page {
         shown: *shown,
-        record: beside.record,
-        totals: totals_of(beside.record, &left),
+        record,
+        totals: totals_of(record, &left),
         unused: &unused,
         shapes: &drawn.shapes,
         levels: &drawn.levels,
         has_fixes: drawn.has_fixes,
         plane,
-        boundary: beside.boundary,
+        boundary,
         system: &system,
-        differences: differences(words, beside.record, plane, &drawn.shapes),
+        differences: differences(words, record, plane, &drawn.shapes),
         report_sum: if words.is_alone { None } else { Some(&sum) },
         words: words.page,
         made: words.made,

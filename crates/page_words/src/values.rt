@@ -79,7 +79,12 @@ fn day_of(text: &str) -> Option<(u64, u64, u64)> {
         number_of(month, 2)?,
         number_of(day, 2)?,
     );
-    Date::new(year as i16, month as i8, day as i8).ok()?;
+    Date::new(
+        i16::try_from(year).ok()?,
+        i8::try_from(month).ok()?,
+        i8::try_from(day).ok()?,
+    )
+    .ok()?;
     Some((u64::from(year), u64::from(month), u64::from(day)))
 }
 
