@@ -61,6 +61,10 @@ read_file <- function(path, given, folder) {
 fixes_of_tracks <- function(into, tz, crs, said, further = function(record, fixes) NULL) {
   record <- read_record(file.path(into, "split.txt"))
   if (!is.null(crs) && !is.null(record$zone)) {
+    if (any(startsWith(record$said, "longitude and latitude are projected into zone "))) {
+      refuse("zone", "longitude and latitude are read, which are projected into the zone ", record$zone, ", and crs is the reference system of ",
+             "easting and northing: leave crs out, or name these by easting and northing")
+    }
     refuse("zone", "the coordinates are of the zone ", record$zone, ", and the CRS ", crs$Name, " is none of UTM: give one of the two")
   }
   fixes <- read_tracks(into, record)

@@ -26,7 +26,7 @@ from .cells import cells_of
 from .changes import PLACES, checksum_of_rows, judged_rows, left_since, own_titles, refuse_changed, refuse_unread, seen, with_named_levels
 from .fixes import Fixes, Reading, clock_of, is_known, is_of_classes, reading_of
 from .refusals import COLUMNS, check_cells, columns_read, refuse_text
-from .systems import are_degrees, crs_named, options_of, refuse_zone, scale_said
+from .systems import are_degrees, crs_named, options_of, refuse_beside_zone, scale_said
 from .text import (
     NAME, Text, frame_given, has_times, in_own_words, plain, text_of_frame, with_clock_of, with_time_named, write_text, zones_in)
 from .tracks import NAMED, Whole, left_out, own_names, read_tracks, rows_of
@@ -288,7 +288,7 @@ def fixes_of(whole: Whole, record: Record, folder: Path, tz: str | None, crs: An
              in_words: Callable[[str], str] = str) -> Fixes:
     """The fixes of tracks with their record, in metres and by the clock of tz."""
     if crs is not None and record.zone is not None and options_of(crs, None).get("zone") != record.zone:
-        refuse_zone(record.zone, crs)
+        refuse_beside_zone(record.zone, record.said, crs)
     own, scale, clock = own_names(record), UNITS[record.unit].per_metre, tz or "UTC"
     names = [own.get(name, name) for name in whole.names]
     east, north = (numbers / scale - added for numbers, added in zip((whole.easting, whole.northing), record.shift))
