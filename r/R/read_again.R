@@ -127,11 +127,12 @@ check_own <- function(fixes) {
   is_read <- are_of_reading(fixes)
   is_copy <- is_new && keys[!is_read][odd[1]] %in% keys[is_read]
   zone <- if (!is.null(facts$zone)) paste0(", zone = \"", facts$zone, "\"") else if (!is.null(facts$crs)) ", crs = .."
+  unit <- if (facts$unit != "m") paste0(", unit = \"", facts$unit, "\"")
   named <- if (length(setdiff(facts$sources, titles_of_fixes))) paste0(", ", text_of_own(own_columns(fixes)))
   refuse("option", "'", animals[odd[1]], if (is_new) "' is none of the animals that were read" else "' has more fixes than were read of it",
          if (is_copy) ", and its fixes are there by another name too: " else
            ": bind fixes of several tables by rbind; if it is a new name, or all are alike, ",
-         "read them anew by read_fixes(as.data.frame(fixes)", zone, named, ")")
+         "read them anew by read_fixes(as.data.frame(fixes)", zone, unit, named, ")")
 }
 
 # Refuses one animal of several readings, as rbind does, of fixes that vctrs bound, which asks for what is known without the rows.

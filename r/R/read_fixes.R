@@ -69,7 +69,7 @@ fixes_of_tracks <- function(into, tz, crs, said, further = function(record, fixe
   }
   fixes <- read_tracks(into, record)
   table <- table_of_fixes(fixes, record, tz, further(record, fixes))
-  said <- c(said, if (!is.null(crs)) check_scale(table, crs))
+  said <- c(vapply(said, as_arguments, "", USE.NAMES = FALSE), if (!is.null(crs)) check_scale(table, crs))
   facts <- facts_of_record(record, file.path(into, "split.txt"), tz, crs, said)
   list(fixes = new_fixes(table, facts), said = said, tracks = tracks_named(into, record$tracks$animal, names(facts$fixes)))
 }

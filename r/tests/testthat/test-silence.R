@@ -139,6 +139,26 @@ test_that("a form of times is for texts", {
   expect_identical(quietly(read_fixes(table, time = c("day", "clock"), time_format = "%Y-%m-%d %H:%M:%S"))$time, moments)
 })
 
+test_that("lengths of time beside days are made clocks", {
+  skip_without_split()
+  skip_if_not_installed("hms")
+  table <- table_of_four()
+  table$second <- NULL
+  table$day <- as.Date("2024-05-01")
+  both <- function(clock) read_fixes(cbind(table, clock = clock), time = c("day", "clock"))
+  wanted <- as.POSIXct("2024-05-01", tz = "UTC") + 3600 * 0:3
+  if (requireNamespace("lubridate", quietly = TRUE)) {
+    seconds <- "hms::as_hms(as.numeric(x, units = \"secs\")) makes clocks of it, which stand beside days"
+    refused(both(lubridate::dhours(0:3)), seconds, "time")
+    expect_identical(quietly(both(hms::as_hms(as.numeric(lubridate::hours(0:3), units = "secs"))))$time, wanted)
+  }
+  if (requireNamespace("units", quietly = TRUE)) {
+    hours <- units::set_units(0:3, "h")
+    refused(both(hours), "hms::as_hms(units::drop_units(units::set_units(x, \"s\"))) makes clocks of it, which stand beside days", "time")
+    expect_identical(quietly(both(hms::as_hms(units::drop_units(units::set_units(hours, "s")))))$time, wanted)
+  }
+})
+
 test_that("units that are no lengths say what makes of them what is read", {
   skip_without_split()
   skip_if_not_installed("units")
