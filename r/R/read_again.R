@@ -307,7 +307,9 @@ read_again <- function(x, given, folder, has_rows) {
   check_sources(x, facts_of(read$fixes)$sources)
   further <- as.list(x)[!names(x) %in% c(titles_of_fixes, names(read$fixes))]
   lost <- if (has_rows) lost_columns(further, facts$sources)
-  read$said <- grep(form_of_taken, setdiff(c(read$said, lost), facts$notes), value = TRUE, invert = TRUE)
+  said <- unique(c(read$said, lost))
+  is_done <- endsWith(said, ": left out") | endsWith(said, ": sorted by time")  # to rows, and was not when these were read
+  read$said <- grep(form_of_taken, said[is_done | !said %in% facts$notes], value = TRUE, invert = TRUE)
   now <- facts_of(read$fixes)
   now$notes <- c(facts$notes, read$said)
   since <- left_since(x)

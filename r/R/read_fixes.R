@@ -77,7 +77,7 @@ fixes_of_tracks <- function(into, tz, crs, said, further = function(record, fixe
 # The fixes of tracks as a table: animal, time in a zone or seconds since a start of one's own, eastings and northings in metres.
 table_of_fixes <- function(fixes, record, tz, more) {
   scale <- units_known[[record$unit]]$scale
-  is_calendar <- all(fixes$second >= 1e8 & fixes$second < 1e10)
+  is_calendar <- all(are_seconds_of_dates(fixes$second))
   time <- if (is_calendar) list(time = .POSIXct(fixes$second, tz = tz)) else list(second = fixes$second)
   own <- c(list(animal = unname(own_names(record)[record$tracks$animal])[fixes$track]), time,
            list(easting = fixes$easting / scale - record$shift[1], northing = fixes$northing / scale - record$shift[2]))

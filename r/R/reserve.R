@@ -109,9 +109,14 @@ turned <- function(shapes, own, longest) {
   last <- nrow(at)
   is_step <- rowSums(at[-1, -(1:2), drop = FALSE] != at[-last, -(1:2), drop = FALSE]) == 0
   steps <- sqrt(rowSums((there[-1, ] - there[-last, ])^2))[is_step]
-  if (!isTRUE(all(abs(back - at[, 1:2]) <= missed * longest)) || !isTRUE(max(steps) <= torn)) return(NULL)
+  if (!isTRUE(all(apart(back, at[, 1:2], isTRUE(sf::st_is_longlat(crs))) <= missed * longest)) || !isTRUE(max(steps) <= torn)) return(NULL)
   found <- sf::st_transform(sf::st_set_crs(whole, crs), own)
   if (all(sf::st_is_valid(found))) found
+}
+
+# How far coordinates lie apart; longitudes around the circle, on which -180 and 180 are one.
+apart <- function(one, other, are_degrees) {
+  abs(if (are_degrees) (one - other + half_turn) %% (2 * half_turn) - half_turn else one - other)
 }
 
 # Coordinates of one reference system in another; not finite where they have no place there.

@@ -8,7 +8,7 @@ import tempfile
 from collections import Counter
 from functools import cached_property
 from pathlib import Path
-from typing import TYPE_CHECKING, Any, Callable, Iterable, Sequence
+from typing import TYPE_CHECKING, Any, Callable, Iterable, Mapping, Sequence
 
 import numpy
 import pandas
@@ -101,8 +101,7 @@ class HomeRanges:
         is not known, as of an animal that got another name); ``level`` in per cent; ``kept``, how many fixes the level
         keeps; and ``corners`` and ``hectares`` of their polygon. Times are whole seconds where they have no date, as those
         since a start of their own."""
-        left_out = self._tracks.left_out if self._tracks else {}
-        rows = []
+        left_out, rows = self._left_by_animal(), []
         for name, table in self._report.tables.items():
             for level, kept, corners, area2 in table.percents:
                 rows.append((
@@ -112,6 +111,15 @@ class HomeRanges:
         summary = pandas.DataFrame(rows, columns=titles)
         times = {title: self._times(summary[title]) for title in ("first", "last")}
         return self.by_group(summary.assign(**times, left_out=summary["left_out"].astype("Int64")))
+
+    def _left_by_animal(self) -> Mapping[str, int]:
+        """How many fixes of each animal were left out, where it is known: by the record of its tracks, or by these."""
+        if self.record is None:
+            return self._tracks.left_out if self._tracks else {}
+        left = Counter[str]()
+        for (name, _), count in self.record.left_out().items():
+            left[name] += count
+        return {name: left[name] for name in self.record.tracks}
 
     def by_group(self, table: pandas.DataFrame) -> pandas.DataFrame:
         """A table with a column of animals, which where ranges are by groups gets one of groups behind it."""

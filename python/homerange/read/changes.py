@@ -226,6 +226,24 @@ def refuse_unread(fixes: pandas.DataFrame, reading: Reading, read: frozenset[str
             refuse(f"{title!r} was added to the fixes, and is not read{goes_before(title, read)}", "columns")
 
 
+def refuse_unread_rows(fixes: pandas.DataFrame, reading: Reading) -> None:
+    """Refuses a row that was not read, of an animal that has more than were read of it, or of which none was: of others, as many were
+    changed."""
+    keys, read = keys_of(fixes), pandas.Series(keys_read(reading))
+    names = numpy.array(cells_of(fixes["animal"]), dtype=object)
+    more = {name for name, count in Counter(names.tolist()).items() if count > reading.counts.get(name, 0)}
+    if not more:
+        return
+    firsts = pandas.Series(keys[~pandas.Series(hashed(keys, names)).duplicated().to_numpy()])  # one of each animal
+    several, known = (own.value_counts().reindex(keys, fill_value=0).to_numpy() for own in (firsts, read))
+    odd = numpy.flatnonzero(pandas.Series(names).isin(more).to_numpy() & (several > known))
+    if len(odd):
+        at = int(odd[0])
+        refuse(f"{row_named(fixes.index, at)}: this fix of {names[at]!r} was not read with the others: bind tables that read_fixes has "
+               "read, by pandas.concat; or if its animal has a new name, or all are alike, read pandas.DataFrame(fixes) as a new table",
+               "option", at + 1)
+
+
 def goes_before(title: str, read: Iterable[str]) -> str:
     """What goes before a column that is not read, and what helps."""
     usual = "sensor-type" if plain(title).startswith("sensor-") else "use"

@@ -139,6 +139,21 @@ test_that("a form of times is for texts", {
   expect_identical(quietly(read_fixes(table, time = c("day", "clock"), time_format = "%Y-%m-%d %H:%M:%S"))$time, moments)
 })
 
+test_that("clocks that are parts of hours and days are those of whole seconds", {
+  skip_without_split()
+  seconds <- 60 * 0:1439
+  table <- data.frame(animal = "a", day = as.Date("2024-05-01"), easting = 5e5 + seconds %% 977, northing = 5e6 + seconds %% 1013)
+  wanted <- as.POSIXct("2024-05-01", tz = "UTC") + seconds
+  for (unit in c("hours", "days", "mins")) {
+    table$clock <- as.difftime(seconds / c(hours = 3600, days = 86400, mins = 60)[[unit]], units = unit)
+    expect_identical(quietly(read_fixes(table, time = c("day", "clock")))$time, wanted)
+    if (requireNamespace("hms", quietly = TRUE)) {
+      table$clock <- hms::hms(seconds / 86400 * 86400)
+      expect_identical(quietly(read_fixes(table, time = c("day", "clock")))$time, wanted)
+    }
+  }
+})
+
 test_that("lengths of time beside days are made clocks", {
   skip_without_split()
   skip_if_not_installed("hms")
