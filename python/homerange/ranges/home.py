@@ -390,7 +390,8 @@ def home_range(
     by: makes a range of each group of an animal's fixes: of a 'year', a 'month' ('2024-05') or a 'season' of a year, by the
         clock of the fixes; of a column of the frame, or of the fixes; of values, one for each fix, or for each row of a frame (a
         Series goes by its index); or of what a function of the fixes answers. Seasons are those of meteorology and are named by
-        their months, '2024 Jun-Aug', and '2023-2024 Dec-Feb' for a December with the months behind it.
+        their months, '2024 Jun-Aug', and '2023-2024 Dec-Feb' for a December with the months behind it. Moments name groups as
+        their own clock shows them, and by days where all are midnights.
     program: the program; if left out, that in the environment as HOMERANGE, the package's own, that of the clone that the
         package is in, or homerange on PATH (README.md, Which program runs).
     jobs: how many processors are taken; if left out, all that this process may have.
