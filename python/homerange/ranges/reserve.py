@@ -99,8 +99,10 @@ def turned_shapes(shapes: Shapes, own: Any, crs: Any, box: Bounds) -> Shapes:
 
 
 def apart(one: Side, other: Side, are_degrees: bool) -> Side:
-    """How far coordinates lie apart; longitudes around the circle, on which -180 and 180 are one."""
-    return numpy.abs((one - other + HALF_TURN) % (2 * HALF_TURN) - HALF_TURN if are_degrees else one - other)
+    """How far coordinates lie apart; longitudes around the circle, on which -180 and 180 are one. Of one that is infinite it is none."""
+    with numpy.errstate(invalid="ignore"):
+        gaps: Side = numpy.abs((one - other + HALF_TURN) % (2 * HALF_TURN) - HALF_TURN if are_degrees else one - other)
+    return gaps
 
 
 def turned(shapes: Shapes, way: Any, longest: float, are_degrees: bool) -> Shapes | None:
