@@ -62,8 +62,9 @@ def missing_as_written(na: Any, columns: Sequence[Column]) -> Any:
 
 
 def is_number(word: Any) -> bool:
-    own = word.item() if isinstance(word, numpy.generic) else word  # numpy would have the greatest of its own width
-    return isinstance(own, Real) and not isinstance(own, bool) and bool(abs(own) <= sys.float_info.max)
+    own: Any = word.item() if isinstance(word, numpy.generic) else word  # numpy would have the greatest of its own width
+    is_real = isinstance(own, Real) and not isinstance(own, bool)
+    return is_real and bool(abs(own) <= sys.float_info.max)
 
 
 def cells_of_number(number: Any, columns: Iterable[Column]) -> list[Any]:
