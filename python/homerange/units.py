@@ -18,6 +18,8 @@ class Unit(NamedTuple):
     hectare: int  # how much doubled area a hectare has
 
 
+OF_MACHINE = {"localtime", "posixrules", "factory"}  # zones that each machine has otherwise, in small letters
+OF_DATABASE = ("posix/", "right/")  # how copies of zones begin, of which one counts leap seconds
 UNITS = {"m": Unit(1, 16_777_216, "metres", 20_000), "dm": Unit(10, 134_217_728, "decimetres", 2_000_000)}
 
 
@@ -28,8 +30,11 @@ def zone_text(zone: Any) -> Any:
 
 
 def zone_of_time(name: object) -> zoneinfo.ZoneInfo:
-    """A time zone by its name."""
+    """A time zone by its name, which each machine has alike: docs/TABLES.md, Local time."""
+    if not isinstance(name, str):
+        refuse(f"tz={name!r} is no time zone")
     try:
-        return zoneinfo.ZoneInfo(str(name)) if isinstance(name, str) else refuse(f"tz={name!r} is no time zone")
+        zone = None if name.lower() in OF_MACHINE or name.startswith(OF_DATABASE) else zoneinfo.ZoneInfo(name)
     except Exception:
-        refuse(f"tz={name!r} is no time zone such as 'Europe/Ljubljana'")
+        zone = None
+    return zone or refuse(f"tz={name!r} is no time zone such as 'Europe/Ljubljana'")

@@ -51,8 +51,6 @@ SWAPPED, OTHER = {"a": "b", "b": "a"}, {"a": "c", "b": "d"}
     (lambda fixes: fixes.assign(northing=fixes["northing"] + 10), {}),
     (lambda fixes: fixes.assign(northing=fixes["northing"] + 10).iloc[1:], {"a": 1}),
     (lambda fixes: fixes.assign(easting=fixes["easting"].where(fixes.index > 0, 500_100)).iloc[:6], {"b": 2}),
-    # Moved and of another animal: which one is not known.
-    (lambda fixes: fixes.assign(northing=fixes["northing"] + 10, animal="c").iloc[1:], {"": 1}),
     (lambda fixes: fixes.assign(time=fixes["time"].dt.tz_convert("UTC")).iloc[1:], {"a": 1}),
     (lambda fixes: fixes.astype({"easting": "float32", "northing": "Int64", "animal": "category"}).iloc[1:], {"a": 1})])
 def test_fixes_that_were_taken_away_are_counted(fixes, change, gone):
@@ -60,6 +58,29 @@ def test_fixes_that_were_taken_away_are_counted(fixes, change, gone):
     assert chosen(own) == gone
     count = sum(gone.values())
     assert f"not chosen: {count} of 8 fixes that were read" in repr(own) if count else "not chosen" not in repr(own)
+
+
+def test_what_is_left_out_again_is_said_again(fixes):
+    marked = frame_of(a=SQUARE * 3, b=APART * 3).assign(visible=[True] * 10 + [False] * 2 + [True] * 12)
+    with pytest.warns(HomeRangeNote, match="^2 outliers: left out$"):
+        fixes = read_fixes(marked, zone="33N")
+    fixes.loc[fixes.index[:2], "visible"] = False
+    with pytest.warns(HomeRangeNote, match="^2 outliers: left out$"):
+        ranges = home_range(fixes)
+    assert ranges.left_out()["fixes"].sum() == 4
+
+
+@pytest.mark.parametrize("change", [
+    lambda fixes: fixes.merge(fixes.head(2).assign(animal="c", easting=500_700), how="outer"),
+    lambda fixes: fixes.combine_first(fixes.head(2).assign(animal="c", easting=500_700).set_axis([20, 21])),
+    lambda fixes: fixes.combine_first(fixes.head(1).assign(easting=500_700).set_axis([20])),  # of an animal that has all of its own
+    lambda fixes: fixes.iloc[4:].reindex([4, 5, 6, 7, 8]).fillna(fixes.iloc[0].to_dict() | {"animal": "c", "easting": 500_700.0}),
+    lambda fixes: fixes.merge(fixes.head(2).assign(animal="c"), how="outer"),  # read once, and there by two names
+    # Moved, and of another animal: they may be others.
+    lambda fixes: fixes.assign(northing=fixes["northing"] + 10, animal="c").iloc[1:]])
+def test_rows_that_were_not_read_are_refused(fixes, change):
+    with pytest.raises(FrameError, match="was not read with the others: bind tables that read_fixes has read, by pandas.concat; or if"):
+        home_range(change(fixes))
 
 
 def test_fixes_of_one_moment_and_place_have_no_animal_once_they_are_named_otherwise(splitter):

@@ -372,6 +372,10 @@ def test_wrong_systems_are_refused_or_said(splitter):
     assert read_fixes(utm, crs="EPSG:32633").reading.zone == "33N"
     with pytest.raises(FrameError, match="the coordinates are of the zone 33N, and the CRS .* none of UTM: give one of the two"):
         read_fixes(utm, crs="EPSG:3035")
+    degrees = frame.assign(easting=15.8, northing=46.3).rename(columns={"easting": "lon", "northing": "lat"})
+    with pytest.raises(FrameError, match="^longitude and latitude are read, which are projected into the zone 33N, .*: leave crs out") as fault:
+        read_fixes(degrees, crs="EPSG:3035")
+    assert fault.value.kind == "zone"
 
 
 def test_points_are_refused_as_ranges_are(splitter):

@@ -130,11 +130,23 @@ def test_what_is_refused(frame, by, said):
         home_range(frame, by=by)
 
 
+def test_moments_are_named_by_their_own_clock_and_days_without_it():
+    times = pandas.date_range("2024-04-29 21:00", periods=12, freq="5h", tz="Europe/Vienna")
+    fixes = read_fixes(pandas.DataFrame({"animal": "a", "time": times, "easting": range(12), "northing": [n * n for n in range(12)]}))
+    days = home_range(fixes, by=fixes["time"].dt.normalize()).animals
+    assert days == [f"a {day}" for day in ("2024-04-29", "2024-04-30", "2024-05-01", "2024-05-02")]
+    halves = home_range(fixes, by=fixes["time"].dt.tz_convert("UTC").dt.floor("12h").dt.tz_convert("Europe/Vienna")).animals
+    assert halves[:2] == ["a 2024-04-29T14:00:00+02:00", "a 2024-04-30T02:00:00+02:00"]
+
+
 def test_periods_want_a_calendar(frame):
     seconds = frame_of(a=cloud(1, 3)).drop(columns="timestamp")
     for table in (seconds, seconds.assign(second=[1, 2, 3])):
         with pytest.raises(FrameError, match="by='year': seconds have no calendar"):
             home_range(table, by="year")
+    early = frame_of(a=cloud(1, 3)).drop(columns="timestamp").assign(time=pandas.to_datetime(["2024-05-01", "1970-01-01", "2024-05-02"]))
+    with pytest.raises(FrameError, match="by='month': row .* is not of the years 1973 to 2262, so that the seconds of no row have"):
+        home_range(early, by="month")
     with pytest.raises(FrameError, match="by='year' is a period of the calendar, and a column too: by=fixes\\['year'\\] takes"):
         home_range(frame.assign(year=1), by="year")
 

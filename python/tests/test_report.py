@@ -56,6 +56,12 @@ def test_a_report_with_its_files(files):
     assert found.polygons(30).crs == "EPSG:32633"
 
 
+@pytest.mark.parametrize("zone", ["localtime", "posixrules", "Factory", "right/UTC", "posix/Europe/Paris", "Mars"])
+def test_zones_that_each_machine_has_otherwise_are_none(files, zone):
+    with pytest.raises(homerange.FrameError, match=f"tz='{zone}' is no time zone"):
+        read_report(report_of(files), tz=zone)
+
+
 def test_a_file_without_a_used_fix_is_passed_over(files):
     report, marked = report_of(files), files[0].with_name("marked.csv")
     marked.write_text("animal,second,easting,northing,use\nhare,0,1,1,0\n")

@@ -121,6 +121,14 @@ def test_a_reserve_that_no_box_around_the_ranges_can_cut_is_refused():
     assert fault.value.kind == "crs"
 
 
+def test_a_reserve_that_ends_at_the_date_line_is_whole():
+    across = home_range(frame_of(a=square(294_000, 5_764_000)), crs="EPSG:32601")  # from 179.99 E to 179.99 W
+    west, east = box(179.9, 51.9, 180, 52.1), box(-180, 51.9, -179.9, 52.1)
+    halves = [share_inside(across, geopandas.GeoSeries([half], crs=4326))["share"][0] for half in (west, east)]
+    assert 0 < halves[0] < 1 and sum(halves) == pytest.approx(1)
+    assert share_inside(across, geopandas.GeoSeries([west, east], crs=4326))["share"][0] == pytest.approx(1)
+
+
 def test_points_and_lines_of_a_reserve_bound_nothing():
     shapes = geopandas.GeoSeries([RESERVE.centroid, RESERVE.exterior, RESERVE], crs=32633)
     assert share_inside(ranges(), shapes.to_crs(4326))["share"][2] == pytest.approx(0.5, abs=0.01)

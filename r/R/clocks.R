@@ -3,15 +3,16 @@
 days_without_date <- .Date(c(-25569, -25568))  # 1899-12-30 and 1899-12-31, on which spreadsheets have clocks
 seconds_of_day <- 86400
 
-# The seconds of the day that a column of clocks has; NULL of another column.
+# The seconds of the day that a column of clocks has, to nine decimals, as moments: hours and days are parts of such seconds that
+# float64 has a little too small or too great. NULL of another column.
 seconds_of_clocks <- function(column) {
-  if (inherits(column, c("ITime", "hms"))) return(as.numeric(unclass(column)))
+  if (inherits(column, c("ITime", "hms"))) return(round(as.numeric(unclass(column)), 9))
   first <- as.numeric(first_value(column))
   if (is.na(first)) return(NULL)
   if (inherits(column, "times") && !inherits(column, "dates")) return(round(as.numeric(unclass(column)) * seconds_of_day, 3))
   if (inherits(column, "POSIXct")) return(if (has_no_date(first_value(column))) seconds_without_date(column))
   if (!inherits(column, "difftime")) return(NULL)
-  seconds <- as.numeric(column, units = "secs")
+  seconds <- round(as.numeric(column, units = "secs"), 9)
   if (all(seconds >= 0 & seconds < seconds_of_day, na.rm = TRUE)) seconds
 }
 

@@ -61,7 +61,7 @@ local_plain <- function(frame = parent.frame()) {
 
 fill_evidence <- function(x, folder, program, title = NULL, study = NULL, species = NULL, by = NULL, reserve = NULL,
                           reserve_name = NULL, tz = NULL, made = NULL) {
-  check_typed(list(title = title, study = study, species = species, by = by, reserve_name = reserve_name), made)
+  check_typed(list(title = title, study = study, species = species, by = by, reserve_name = reserve_name), made, reserve)
   zone <- zone_of_page(x, tz)
   rings <- if (!is.null(reserve)) rings_in_order(rings_of_boundary(boundary_of(x, reserve)))
   words <- list(title = title, study = study, species = species, by = by, day = if (!is.null(made)) format(made, "%Y-%m-%d"),

@@ -98,7 +98,10 @@ words_listed <- function(words) {
 
 # A clock that writes dates of a zone. Seconds from 1973 to 2286 are those of a calendar; where others are among them, all are
 # counted in days of the files' own start.
-new_clock <- function(zone, seconds) list(zone = zone, is_calendar = all(seconds >= 1e8 & seconds < 1e10))
+new_clock <- function(zone, seconds) list(zone = zone, is_calendar = all(are_seconds_of_dates(seconds)))
+
+# Which seconds may be times of a calendar, from 1973 to 2286.
+are_seconds_of_dates <- function(seconds) seconds >= 1e8 & seconds < 1e10
 
 date_text <- function(clock, second) {
   if (!clock$is_calendar) return(paste0("day ", sprintf("%.0f", second %/% 86400 + 1)))

@@ -93,6 +93,7 @@ text_of_groups <- function(by) {
     refuse("option", "row ", odd, ": by has a group that is '", number, "', a number that is not whole: make it text", record = odd)
   }
   if (is.character(by) || is.factor(by)) return(check_printable(in_utf8(as.character(by))))
+  if (inherits(by, "POSIXct") && all(as.numeric(by) %% 1 == 0, na.rm = TRUE)) return(moments_by_clock(by))
   cells <- cells_of_column(by, "by")
   odd <- which(grepl("^<[^<>]+>$", cells))[1]
   if (!is.na(odd)) {
@@ -100,6 +101,14 @@ text_of_groups <- function(by) {
            record = odd)
   }
   cells
+}
+
+# Moments of whole seconds as their own clock shows them, and as days where all are midnights.
+moments_by_clock <- function(by) {
+  at <- as.POSIXlt(by, tz = zone_of_times(by))
+  if (all(at$hour == 0 & at$min == 0 & at$sec == 0, na.rm = TRUE)) return(format(at, "%Y-%m-%d"))
+  text <- format(at, "%Y-%m-%dT%H:%M:%S%z")
+  sub("[+]00:00$", "Z", sub("([0-9]{2})$", ":\\1", text))
 }
 
 # Refuses a group that is more than one line.
@@ -128,11 +137,18 @@ check_period <- function(by, titles) {
   }
 }
 
+# Why seconds have no calendar, and what helps.
+why_no_calendar <- function(fixes) {
+  are_dates <- are_seconds_of_dates(fixes$second)
+  if (all(are_dates) || !any(are_dates)) return("seconds have no calendar: read a table with a column of date-times in place of second")
+  odd <- which(!are_dates)[1]
+  paste0("a fix of '", fixes$animal[odd], "', at ", format(.POSIXct(fixes$second[odd], tz = "UTC"), "%Y-%m-%d %H:%M:%S"), " UTC, is not of the ",
+         "years 1973 to 2286, so that no second has a calendar: leave it out, as by since, or name groups by a column of text")
+}
+
 # The period of each fix, by the clock of the fixes.
 labels_of_period <- function(fixes, by) {
-  if (!"time" %in% names(fixes)) {
-    refuse("option", "by = \"", by, "\": seconds have no calendar: read a table with a column of date-times in place of second")
-  }
+  if (!"time" %in% names(fixes)) refuse("option", "by = \"", by, "\": ", why_no_calendar(fixes))
   clock <- clock_of_fixes(fixes)
   by_distinct(900 * (as.numeric(fixes$time) %/% 900), function(quarters) {  # in which no clock is moved
     day <- as.POSIXlt(.POSIXct(quarters, tz = clock), tz = clock)

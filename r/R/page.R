@@ -11,7 +11,7 @@ write_page <- function(x, path, title = NULL, study = NULL, species = NULL, by =
   check_ranges(x)
   check_whole(x, "a page")
   check_path(path)
-  check_typed(list(title = title, study = study, species = species, by = by, reserve_name = reserve_name), made)
+  check_typed(list(title = title, study = study, species = species, by = by, reserve_name = reserve_name), made, reserve)
   zone <- zone_of_page(x, tz)
   day <- as.POSIXlt(if (is.null(made)) as.POSIXlt(Sys.time(), tz = zone) else made)
   program <- tryCatch(identity_of(homerange_program()), homerange_program_error = function(fault) list(version = "homerange"))
@@ -20,11 +20,12 @@ write_page <- function(x, path, title = NULL, study = NULL, species = NULL, by =
   invisible(path)
 }
 
-# Refuses what was typed in and is no text, and a day that is none.
-check_typed <- function(words, made) {
+# Refuses what was typed in and is no text, a name of no reserve, and a day that is none.
+check_typed <- function(words, made, reserve) {
   for (name in names(words)) {
     if (!is.null(words[[name]]) && !is_text(words[[name]])) refuse("option", argument_text(name, words[[name]]), " is no text")
   }
+  if (is.null(reserve) && is_given(words$reserve_name)) refuse("option", "reserve_name is the name of no reserve: give its shape as reserve")
   if (is.null(made) || length(made) == 1 && inherits(made, c("Date", "POSIXct")) && !is.na(made)) return(invisible())
   refuse("option", argument_text("made", made), " is no date")
 }
@@ -32,7 +33,8 @@ check_typed <- function(words, made) {
 # The zone of the dates of a page.
 zone_of_page <- function(x, tz) {
   zone <- if (!is.null(tz)) tz else if (is.null(x$tz)) "UTC" else x$tz
-  if (!is_text(zone) || !zone %in% c("UTC", "GMT", OlsonNames())) {
+  # Factory is that of a machine whose zone was not set.
+  if (!is_text(zone) || !zone %in% c("UTC", "GMT", setdiff(OlsonNames(), "Factory"))) {
     refuse("option", argument_text("tz", zone), " is no time zone such as \"Europe/Ljubljana\"")
   }
   zone

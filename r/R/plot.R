@@ -14,12 +14,23 @@ plot.home_range <- function(x, what = c("ranges", "curve"), levels = 100, animal
   for (side in c("xlim", "ylim")) check_limits(get(side), side)
   for (word in c("main", "xlab", "ylab", "label")) check_word(get(word), word)
   asked <- list(main = if (is.null(main)) "" else main, xlab = xlab, ylab = ylab, xlim = xlim, ylim = ylim, titles = list(...))
+  check_drawing(what, levels, over, share, by)
   if (what == "curve") {
     draw_curves(x, drawn, by, share, facets, asked)
   } else {
     draw_ranges(x, drawn, drawn_levels(x, levels), fixes, check_over(x, over), label, facets, asked)
   }
   invisible(x)
+}
+
+# Refuses arguments that another drawing has.
+check_drawing <- function(what, levels, over = NULL, share = FALSE, by = "fix") {
+  of_map <- c(levels = !identical(as.numeric(levels), 100), over = !is.null(over))
+  of_curve <- c(share = share, by = by != "fix")
+  odd <- names(which(if (what == "curve") of_map else of_curve))[1]
+  if (is.na(odd)) return(invisible())
+  refuse("option", odd, if (what == "curve") " is of the map of ranges, and a curve is that of all fixes: leave it out, or take what = \"ranges\"" else
+    " is of the curve of area: leave it out, or take what = \"curve\"")
 }
 
 # One of some words, the first where all of them stand, as in the head of a function.

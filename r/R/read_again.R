@@ -6,10 +6,20 @@ titles_of_marks <- c("use", "visible", "manually-marked-outlier", "algorithm-mar
 # Titles of other columns that may say which fixes count, or where they are: those that were added are read or refused.
 titles_of_doubt <- c(
   "lc", "class", "loc-class", "locationclass", "argos-loc-class", "argos-location-class", "argos-lc", "argos-class", "loc--quality",
-  "location-quality", "location-class", "outlier", "outliers", "is-outlier", "isoutlier", "valid", "is-valid", "isvalid",
-  "event-visible", "sensor-type", "sensor-type-id", "utm-zone", "zone", "zona", "huso", "fuso", "fuseau", "utmz", "utmzone",
+  "location-quality", "location-class", "sensor-type", "sensor-type-id", "utm-zone", "zone", "zona", "huso", "fuso", "fuseau", "utmz", "utmzone",
   "utm-zone-number", "zone-number", "zonenumber", "zone-letter", "zoneletter", "grid-zone", "epsg", "epsg-code", "srid", "crs"
 )
+# Words of titles that say so too, and words and titles beside which one of the first says nothing.
+words_of_marks <- c(
+  "outlier", "outliers", "outlying", "isoutlier", "isoutliers", "valid", "isvalid", "invalid", "isinvalid", "visible", "isvisible",
+  "invisible", "ausreisser", "ausrei\u00dfer", "valide", "valido", "v\u00e1lido", "aberrant"
+)
+words_of_grids <- c(
+  "zone", "zones", "zona", "zonas", "zonen", "huso", "fuso", "fuseau", "utm", "utmz", "utmzone", "zonenumber", "zoneletter", "mgrs",
+  "epsg", "srid", "crs", "srs"
+)
+words_of_satellites <- c("sat", "sats", "satellite", "satellites", "sv", "svs")
+no_marks <- c("argos-valid-location-algorithm", "argos-valid-location-manual", "outlier-comments")
 options_of_columns <- c("animal", "time", "easting", "northing", "lon", "lat", "argos", "argos_class", "dop", "max_dop", "fix",
                         "fix_type", "sensor")  # which look at further columns
 # Lines that only say what was taken.
@@ -20,8 +30,20 @@ plain_title <- function(titles) gsub("[ .:_]", "-", in_small(trimws(readable(tit
 
 # Whether columns of these titles say which fixes count, and not where they are, which the program tells by its cells.
 say_which_count <- function(titles) {
-  titles <- plain_title(titles)
-  titles %in% c(titles_of_marks, titles_of_doubt) & !grepl("zone|epsg|srid|crs", titles)
+  plain <- plain_title(titles)
+  plain %in% c(titles_of_marks, titles_of_doubt) & !have_word(titles, words_of_grids) | may_be_marks(titles)
+}
+
+# Whether titles have one of some words, as docs/TABLES.md, Titles, cuts them.
+have_word <- function(titles, words) {
+  titles <- enc2utf8(readable(titles))
+  found <- regmatches(titles, gregexpr("[A-Z]*[a-z\u00c0-\u1fff\u3000-\uffff]+|[A-Z]+|[0-9]+", titles, perl = TRUE))
+  vapply(found, function(own) any(in_small(own) %in% words), NA)
+}
+
+# Whether a word of a title says that a column may have marks.
+may_be_marks <- function(titles) {
+  have_word(titles, words_of_marks) & !have_word(titles, words_of_satellites) & !plain_title(titles) %in% no_marks
 }
 
 # The columns of fixes that are read again: their own, marks, also those that no table may have without use, and those of doubt that
@@ -29,7 +51,8 @@ say_which_count <- function(titles) {
 columns_to_read <- function(fixes) {
   titles <- plain_title(names(fixes))
   is_added <- !names(fixes) %in% facts_of(fixes)$titles
-  counts <- titles %in% titles_of_marks | titles %in% titles_of_doubt & (is_added | grepl("outlier|valid|visible", titles))
+  is_of_doubt <- titles %in% titles_of_doubt | have_word(names(fixes), words_of_grids)
+  counts <- titles %in% titles_of_marks | may_be_marks(names(fixes)) | is_of_doubt & is_added
   places <- match(names(fixes), own_columns(fixes))  # of columns that may be there twice
   as.list(fixes)[c(order(places, na.last = NA), which(is.na(places) & counts))]
 }
@@ -104,11 +127,12 @@ check_own <- function(fixes) {
   is_read <- are_of_reading(fixes)
   is_copy <- is_new && keys[!is_read][odd[1]] %in% keys[is_read]
   zone <- if (!is.null(facts$zone)) paste0(", zone = \"", facts$zone, "\"") else if (!is.null(facts$crs)) ", crs = .."
+  unit <- if (facts$unit != "m") paste0(", unit = \"", facts$unit, "\"")
   named <- if (length(setdiff(facts$sources, titles_of_fixes))) paste0(", ", text_of_own(own_columns(fixes)))
   refuse("option", "'", animals[odd[1]], if (is_new) "' is none of the animals that were read" else "' has more fixes than were read of it",
          if (is_copy) ", and its fixes are there by another name too: " else
            ": bind fixes of several tables by rbind; if it is a new name, or all are alike, ",
-         "read them anew by read_fixes(as.data.frame(fixes)", zone, named, ")")
+         "read them anew by read_fixes(as.data.frame(fixes)", zone, unit, named, ")")
 }
 
 # Refuses one animal of several readings, as rbind does, of fixes that vctrs bound, which asks for what is known without the rows.
@@ -283,7 +307,9 @@ read_again <- function(x, given, folder, has_rows) {
   check_sources(x, facts_of(read$fixes)$sources)
   further <- as.list(x)[!names(x) %in% c(titles_of_fixes, names(read$fixes))]
   lost <- if (has_rows) lost_columns(further, facts$sources)
-  read$said <- grep(form_of_taken, setdiff(c(read$said, lost), facts$notes), value = TRUE, invert = TRUE)
+  said <- unique(c(read$said, lost))
+  is_done <- endsWith(said, ": left out") | endsWith(said, ": sorted by time")  # to rows, and was not when these were read
+  read$said <- grep(form_of_taken, said[is_done | !said %in% facts$notes], value = TRUE, invert = TRUE)
   now <- facts_of(read$fixes)
   now$notes <- c(facts$notes, read$said)
   since <- left_since(x)

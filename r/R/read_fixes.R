@@ -61,11 +61,15 @@ read_file <- function(path, given, folder) {
 fixes_of_tracks <- function(into, tz, crs, said, further = function(record, fixes) NULL) {
   record <- read_record(file.path(into, "split.txt"))
   if (!is.null(crs) && !is.null(record$zone)) {
+    if (any(startsWith(record$said, "longitude and latitude are projected into zone "))) {
+      refuse("zone", "longitude and latitude are read, which are projected into the zone ", record$zone, ", and crs is the reference system of ",
+             "easting and northing: leave crs out, or name these by easting and northing")
+    }
     refuse("zone", "the coordinates are of the zone ", record$zone, ", and the CRS ", crs$Name, " is none of UTM: give one of the two")
   }
   fixes <- read_tracks(into, record)
   table <- table_of_fixes(fixes, record, tz, further(record, fixes))
-  said <- c(said, if (!is.null(crs)) check_scale(table, crs))
+  said <- c(vapply(said, as_arguments, "", USE.NAMES = FALSE), if (!is.null(crs)) check_scale(table, crs))
   facts <- facts_of_record(record, file.path(into, "split.txt"), tz, crs, said)
   list(fixes = new_fixes(table, facts), said = said, tracks = tracks_named(into, record$tracks$animal, names(facts$fixes)))
 }
@@ -73,7 +77,7 @@ fixes_of_tracks <- function(into, tz, crs, said, further = function(record, fixe
 # The fixes of tracks as a table: animal, time in a zone or seconds since a start of one's own, eastings and northings in metres.
 table_of_fixes <- function(fixes, record, tz, more) {
   scale <- units_known[[record$unit]]$scale
-  is_calendar <- all(fixes$second >= 1e8 & fixes$second < 1e10)
+  is_calendar <- all(are_seconds_of_dates(fixes$second))
   time <- if (is_calendar) list(time = .POSIXct(fixes$second, tz = tz)) else list(second = fixes$second)
   own <- c(list(animal = unname(own_names(record)[record$tracks$animal])[fixes$track]), time,
            list(easting = fixes$easting / scale - record$shift[1], northing = fixes$northing / scale - record$shift[2]))

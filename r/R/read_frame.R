@@ -3,7 +3,8 @@
 # What the program says is to be done with a file, and what with a frame in place of it.
 remedies_of_frames <- c(
   "write its column as text, before a spreadsheet opens it" =
-    "its column is text that was made of numbers: keep them as numbers, or make text by format(x, scientific = FALSE)",
+    paste("its column was made of numbers: keep them as numbers, if none is above 2^53, or make text by",
+          "format(x, scientific = FALSE)"),
   "may stand before thousands: export without it" = "may stand before thousands: make numbers of its column, if they are decimals",
   "say so by lon = \"point [^;]*" = "give the points the reference system that they have, as by sf::st_set_crs(x, 4326)"
 )

@@ -2,12 +2,16 @@
 
 in_seconds <- "as.numeric(x, units = \"secs\") makes seconds of it, in a column 'second' in its place"
 
+in_clocks <- "hms::as_hms("
+makes_clocks <- ") makes clocks of it, which stand beside days"
+
 # What to do with a column of a class: numbers alone may be other ones than they seem. Lengths of time beside days are parts of times.
 remedy_of_class <- function(column, class, days = NULL, title = NULL) {
   if (class == "difftime" && length(days)) {
     return(paste0("as.POSIXct(x[[\"", days[1], "\"]]) + x[[\"", title, "\"]] makes times of both, in a column that time names alone"))
   }
-  if (inherits(column, "units")) return(remedy_of_unit(column))
+  if (class %in% c("Period", "Duration") && length(days)) return(paste0(in_clocks, "as.numeric(x, units = \"secs\")", makes_clocks))
+  if (inherits(column, "units")) return(remedy_of_unit(column, length(days) > 0))
   if (length(dim(column)) == 2) return("make each of its columns one of the table, as by cbind(table, x)")
   switch(
     class, difftime = , Period = , Duration = paste0("if it is a time, ", in_seconds),
@@ -17,12 +21,14 @@ remedy_of_class <- function(column, class, days = NULL, title = NULL) {
   )
 }
 
-# What to do with a column of a unit that is no length in metres.
-remedy_of_unit <- function(column) {
+# What to do with a column of a unit that is no length in metres, and may stand beside days.
+remedy_of_unit <- function(column, has_days = FALSE) {
   if (!is.null(in_unit(column, "degrees"))) return("units::set_units(x, \"degrees\") makes degrees of it")
   if (!is.null(in_unit(column, "m"))) return("units::set_units(x, \"m\") makes metres of it")
   if (is.null(in_unit(column, "s"))) return("it is no length: units::drop_units(x) makes numbers of it")
-  "if it is a time, units::drop_units(units::set_units(x, \"s\")) makes seconds of it, in a column 'second' in its place"
+  seconds <- "units::drop_units(units::set_units(x, \"s\"))"
+  if (has_days) return(paste0(in_clocks, seconds, makes_clocks))
+  paste0("if it is a time, ", seconds, " makes seconds of it, in a column 'second' in its place")
 }
 
 # Refuses a table whose places are within one of its columns: shapes, or a matrix or a table of two.

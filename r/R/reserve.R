@@ -32,7 +32,8 @@ crs_or_none <- function(ranges) if (is.null(ranges$crs)) sf::NA_crs_ else ranges
 boundary_of <- function(ranges, reserve) {
   if (!inherits(reserve, c("sf", "sfc", "sfg"))) refuse("option", "reserve: an sf geometry is wanted")
   own <- crs_or_none(ranges)
-  shapes <- if (inherits(reserve, "sfg")) sf::st_sfc(reserve, crs = own) else sf::st_geometry(reserve)
+  is_bare <- inherits(reserve, "sfg")
+  shapes <- if (is_bare) sf::st_sfc(reserve, crs = own) else sf::st_geometry(reserve)
   shapes <- sf::st_zm(shapes)
   if (is_without_place(sf::st_crs(shapes), "reserve")) shapes <- sf::st_set_crs(shapes, NA)
   if (is.na(sf::st_crs(shapes)) != is.na(own)) {
@@ -42,8 +43,22 @@ boundary_of <- function(ranges, reserve) {
   check_shapes(sf::st_set_crs(shapes, NA), reserve)
   shapes <- polygons_of(shapes)
   if (!any(as.numeric(sf::st_area(sf::st_set_crs(shapes, NA))) > 0)) refuse("option", "the reserve has no area")
+  says_system <- !is_bare && !is.na(sf::st_crs(shapes))
   if (!is.na(own) && sf::st_crs(shapes) != own) shapes <- turned_shapes(shapes, own, ranges)
-  sf::st_union(shapes)
+  boundary <- sf::st_union(shapes)
+  if (!says_system && lies_in_degrees(sf::st_bbox(boundary), ranges)) {
+    refuse("degrees", "the reserve has no CRS, and lies as longitude and latitude do: ",
+           if (is_bare) "make sf::st_sfc(reserve, crs = 4326) of it" else "name it, as by sf::st_set_crs(reserve, 4326)",
+           ", which is taken to that of the ranges")
+  }
+  boundary
+}
+
+# Whether a box may be one of longitude and latitude, and has no place in common with ranges.
+lies_in_degrees <- function(box, ranges) {
+  box <- unname(box)
+  is_in_degrees <- box[1] >= -half_turn && box[2] >= -half_turn / 2 && box[3] <= half_turn && box[4] <= half_turn / 2
+  is_in_degrees && !boxes_meet(box, matrix(box_of(in_metres(ranges, ranges$corners)), nrow = 1))
 }
 
 # Refuses the first of the shapes of a reserve that bounds nothing, with its row.
@@ -94,9 +109,14 @@ turned <- function(shapes, own, longest) {
   last <- nrow(at)
   is_step <- rowSums(at[-1, -(1:2), drop = FALSE] != at[-last, -(1:2), drop = FALSE]) == 0
   steps <- sqrt(rowSums((there[-1, ] - there[-last, ])^2))[is_step]
-  if (!isTRUE(all(abs(back - at[, 1:2]) <= missed * longest)) || !isTRUE(max(steps) <= torn)) return(NULL)
+  if (!isTRUE(all(apart(back, at[, 1:2], isTRUE(sf::st_is_longlat(crs))) <= missed * longest)) || !isTRUE(max(steps) <= torn)) return(NULL)
   found <- sf::st_transform(sf::st_set_crs(whole, crs), own)
   if (all(sf::st_is_valid(found))) found
+}
+
+# How far coordinates lie apart; longitudes around the circle, on which -180 and 180 are one.
+apart <- function(one, other, are_degrees) {
+  abs(if (are_degrees) (one - other + half_turn) %% (2 * half_turn) - half_turn else one - other)
 }
 
 # Coordinates of one reference system in another; not finite where they have no place there.

@@ -77,6 +77,7 @@ autoplot.home_range <- function(object, what = c("ranges", "curve"), levels = 10
   check_dots(...)
   what <- word_of_these(what, c("ranges", "curve"), "what")
   check_truth(fixes, "fixes")
+  check_drawing(what, levels)
   of <- function(...) do.call(ggplot2::aes, lapply(c(...), as.name))  # titles of columns
   if (what == "curve") {
     curve <- homerange_curve(object[TRUE])

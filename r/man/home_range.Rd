@@ -22,7 +22,8 @@ home_range(x, levels = c(50, 95, 100), by = NULL, ..., progress = interactive(),
 \item{levels}{the levels of the percent polygons: 1 to 8 different whole numbers from 1 to 100.}
 \item{by}{of what groups of an animal's fixes ranges are: \code{"year"}, \code{"month"} or \code{"season"}, by the clock of the
   zone of times; the name of a column of the table, or of the fixes; a vector with a group for each fix, or for each row of \code{x} where that
-  is a data frame that was not read yet; or a function of the fixes that gives one.}
+  is a data frame that was not read yet; or a function of the fixes that gives one. Moments name groups as their own clock shows
+  them, and by days where all are midnights.}
 \item{...}{options of \code{\link{read_fixes}}, where \code{x} was not read yet. For \code{print} and \code{format} none;
   others are refused.}
 \item{progress}{whether a bar shows how far many runs of the program have come.}

@@ -150,7 +150,7 @@ def _(hand):
     hand.sealed_sub("evidence.txt", "^clock: UTC", "clock: Asia/Tokyo")
 
 
-forgery.sealed("a clock of this machine", "a moment or a zone of dates in evidence.txt is none that can be shown: 'localtime'",
+forgery.sealed("a clock of this machine", "tz='localtime' is no time zone such as 'Europe/Ljubljana'",
                file="evidence.txt", old="^clock: UTC", new="clock: localtime")
 
 

@@ -8,7 +8,7 @@ use split_clock::Clock;
 use split_export::{Export, Texts, look_at_unread};
 use split_reading::{Row, Told};
 use split_refusal::{Kind, Refusal};
-use split_titles::{comes_to, not_read, trimmed};
+use split_titles::{comes_to, has_word, is_of_places, not_read, trimmed};
 use std::alloc::{AllocError, Global};
 
 // The seconds of a day.
@@ -17,11 +17,87 @@ const DAY: i128 = 86_400;
 // The zone that every clock without a name is of.
 const UTC: &str = "UTC";
 
-// Titles of hours, of zones of time and of zones of a grid.
-const HOURS: [&[u8]; 10] = [
-    b"hour", b"hours", b"hora", b"heure", b"stunde", b"std", b"ora", b"hr", b"uhr", b"hh",
+// Titles of hours that are words of other things too, and words of titles of hours.
+const HOURS: [&[u8]; 6] = [b"std", b"ora", b"hr", b"hrs", b"uhr", b"hh"];
+
+const HOUR_WORDS: [&str; 11] = [
+    "hour", "hours", "hora", "horas", "heure", "heures", "stunde", "stunden", "uhrzeit", "hhmm",
+    "hhmmss",
 ];
 
+// Words of titles of the zone of times: such as name UTC, such as name a zone of time, and such as do so two by two.
+const UTC_WORDS: [&str; 2] = ["utc", "gmt"];
+
+const CLOCK_WORDS: [&str; 8] = [
+    "tz",
+    "tzone",
+    "timezone",
+    "timezones",
+    "zeitzone",
+    "utcoffset",
+    "gmtoffset",
+    "tzoffset",
+];
+
+const TIME_WORDS: [&str; 9] = [
+    "time", "zeit", "horaire", "horario", "horário", "horaria", "orario", "oraria", "tid",
+];
+
+// Words that say beside `UTC` that a column has an offset.
+const OFFSET_WORDS: [&str; 27] = [
+    "offset",
+    "off",
+    "diff",
+    "difference",
+    "shift",
+    "delta",
+    "decalage",
+    "décalage",
+    "versatz",
+    "verschiebung",
+    "differenz",
+    "desfase",
+    "h",
+    "hr",
+    "hrs",
+    "hours",
+    "std",
+    "stunden",
+    "heures",
+    "horas",
+    "ore",
+    "min",
+    "mins",
+    "minutes",
+    "sec",
+    "secs",
+    "seconds",
+];
+
+// The title that Movebank has for the zone of `study-local-timestamp`, beside times of UTC.
+const OF_LOCAL_TIMES: &[u8] = b"study-timezone";
+
+// Words of titles of zones of a grid, and of reference systems.
+const GRID_WORDS: [&str; 14] = [
+    "zone",
+    "zones",
+    "zona",
+    "zonas",
+    "zonen",
+    "huso",
+    "fuso",
+    "fuseau",
+    "utm",
+    "utmz",
+    "utmzone",
+    "zonenumber",
+    "zoneletter",
+    "mgrs",
+];
+
+const SYSTEM_WORDS: [&str; 4] = ["epsg", "srid", "crs", "srs"];
+
+// Titles of the zone of times and of zones of a grid.
 const OFFSETS: [&[u8]; 8] = [
     b"utc-offset",
     b"utcoffset",
@@ -66,15 +142,50 @@ enum Passed {
     Clock,
     // The hour, of such times.
     Hour,
+    // The hour in another form than that of one number.
+    OddHour,
     // Of which zone times are.
     Offset,
     // Of which zone coordinates are.
     Zone,
+    // Coordinates of records that have none elsewhere.
+    Places,
 }
 
 // Whether a title is one of these.
 fn is_one_of(title: &[u8], titles: &[&[u8]]) -> bool {
     titles.iter().any(|own| comes_to(title, own))
+}
+
+// Whether the words of a title are those of the zone of times.
+fn is_of_clock(title: &[u8]) -> bool {
+    let is_zone_of_time = has_word(title, &GRID_WORDS) && has_word(title, &TIME_WORDS);
+    has_word(title, &CLOCK_WORDS) || is_zone_of_time
+}
+
+// Whether the words of a title say that a column may have offsets from UTC.
+fn may_be_offset(title: &[u8]) -> bool {
+    let is_bare = is_one_of(title, &[b"utc".as_slice(), b"gmt"]);
+    let is_offset = has_word(title, &UTC_WORDS) && has_word(title, &OFFSET_WORDS);
+    is_bare || is_offset || is_of_clock(title)
+}
+
+// Whether a column of this title and with such texts says of which zone times are, and that this is not UTC.
+fn has_offsets(title: &[u8], texts: &Texts) -> bool {
+    let is_one = is_one_of(title, &OFFSETS) || texts.are_of_clocks && may_be_offset(title);
+    is_one && !texts.are_utc && !comes_to(title, OF_LOCAL_TIMES)
+}
+
+// Whether a column of this title and with such texts has several zones of a grid.
+fn has_grid_zones(title: &[u8], texts: &Texts) -> bool {
+    let has_zones = texts.are_grid_zones && has_word(title, &GRID_WORDS) && !is_of_clock(title);
+    texts.are_several && (is_one_of(title, &ZONES) || has_word(title, &SYSTEM_WORDS) || has_zones)
+}
+
+// Whether a column of this title and with such texts has hours.
+fn has_hours(title: &[u8], texts: &Texts) -> bool {
+    let is_one = is_one_of(title, &HOURS) || has_word(title, &HOUR_WORDS);
+    texts.are_several && texts.are_numbered && is_one
 }
 
 // Whether the fix of a row, if it has one, was at midnight by a clock.
@@ -133,12 +244,18 @@ fn what_is_passed(known: Known, title: &[u8], texts: &Texts) -> Option<Passed> {
         Some(Passed::Classes)
     } else if known.are_days && texts.are_several && texts.are_clocks {
         Some(Passed::Clock)
-    } else if known.are_days && texts.are_several && texts.are_hours && is_one_of(title, &HOURS) {
-        Some(Passed::Hour)
-    } else if known.has_time && known.is_in_utc && !texts.are_utc && is_one_of(title, &OFFSETS) {
+    } else if known.are_days && has_hours(title, texts) {
+        Some(if texts.are_hours {
+            Passed::Hour
+        } else {
+            Passed::OddHour
+        })
+    } else if known.has_time && known.is_in_utc && has_offsets(title, texts) {
         Some(Passed::Offset)
-    } else if known.has_own_metres && texts.are_several && is_one_of(title, &ZONES) {
+    } else if known.has_own_metres && has_grid_zones(title, texts) {
         Some(Passed::Zone)
+    } else if texts.is_beside_none && is_of_places(title) {
+        Some(Passed::Places)
     } else {
         None
     }
@@ -165,12 +282,19 @@ fn words_of(passed: Passed) -> &'static str {
             "has hours, which the days of the time have not: join them, as by --time DAY,COLUMN --time-format '%Y-%m-%d %H', or \
              remove it"
         }
+        Passed::OddHour => {
+            "has hours, which the days of the time have not: write them as clocks, such as 00:30, and join them, as by --time DAY,COLUMN, \
+             or remove it"
+        }
         Passed::Offset => {
             "says of which zone times are, and is not read: name the zone, as by --tz Europe/Ljubljana, or write the offset behind \
              each time, and remove it"
         }
         Passed::Zone => {
             "has several values: if they are zones of the coordinates, make a table of each; and else rename or remove it"
+        }
+        Passed::Places => {
+            "has coordinates of records that have none in the columns that are read: make a table of each, or remove it"
         }
     }
 }
@@ -211,6 +335,14 @@ fn first_passed(
     None
 }
 
+// The title of a column of an export.
+fn title_at<'a>(export: &'a Export<'_>, column: usize) -> &'a [u8] {
+    match export.titles.get(column) {
+        Some(title) => title.as_slice(),
+        None => b"",
+    }
+}
+
 /// Refuses a table of which a column that is not read may say where or when fixes are, or of which kind.
 ///
 /// # Errors
@@ -229,17 +361,15 @@ pub(crate) fn refuse_passed_over(
     if columns.is_empty() {
         return Ok(());
     }
-    let Ok(texts) = look_at_unread(alloc, &export.text, &columns, &export.ledger.rows) else {
+    let have_places = columns
+        .iter()
+        .any(|column| is_of_places(title_at(export, *column)));
+    let rows = &export.ledger.rows;
+    let Ok(texts) = look_at_unread(alloc, &export.text, &columns, have_places, rows) else {
         return Err(Refusal::out_of_memory(alloc));
     };
     match first_passed(known_of(export, wish), &export.titles, &columns, &texts) {
-        Some((column, what)) => {
-            let title = match export.titles.get(column) {
-                Some(title) => title.as_slice(),
-                None => b"",
-            };
-            Err(refusal_of(alloc, column, title, what))
-        }
+        Some((column, what)) => Err(refusal_of(alloc, column, title_at(export, column), what)),
         None => Ok(()),
     }
 }

@@ -13,6 +13,7 @@ mod times_look;
 mod unmet;
 mod unread;
 mod unread_times;
+mod unread_words;
 
 pub use asked::Asked;
 pub use export::{Export, ExportFault, has_commas, read_export, titles_of};

@@ -1,10 +1,12 @@
 // What the texts of columns that are not read may say of where and when fixes are, and of which kind.
 
+use crate::unread_words::{is_grid_zone, is_numbered, is_of_clock, is_place};
 use csv::ByteRecord;
 use range_plane::OutOfMemory;
 use split_filters::class_name;
 use split_reading::{Row, Told};
 use split_table::{TableFault, TableText};
+use split_tracks::Reason;
 use std::alloc::Global;
 
 // How many bytes of a text tell it from others.
@@ -23,8 +25,16 @@ pub struct Texts {
     pub are_clocks: bool,
     /// Whether all are whole numbers from 0 to 24.
     pub are_hours: bool,
+    /// Whether all begin with a digit, as far as they were looked at.
+    pub are_numbered: bool,
     /// Whether all are zones of time that are UTC.
     pub are_utc: bool,
+    /// Whether all are offsets from UTC, or names of zones of time.
+    pub are_of_clocks: bool,
+    /// Whether all may be zones of UTM or parts of such, or codes of systems.
+    pub are_grid_zones: bool,
+    /// Whether one is a number other than 0 of a record that has no coordinates.
+    pub is_beside_none: bool,
     // Whether all are `N` or `S`, and whether all are `E` or `W`.
     are_of_latitude: bool,
     are_of_longitude: bool,
@@ -110,7 +120,11 @@ impl Texts {
             are_halves: true,
             are_clocks: true,
             are_hours: true,
+            are_numbered: true,
             are_utc: true,
+            are_of_clocks: true,
+            are_grid_zones: true,
+            is_beside_none: false,
             are_of_latitude: true,
             are_of_longitude: true,
             is_against: false,
@@ -121,8 +135,8 @@ impl Texts {
         }
     }
 
-    // The same with one text more, of a record with these degrees.
-    fn with(self, text: &[u8], degrees: Option<(i64, i64)>) -> Texts {
+    // The same with one text more, of a record with these degrees, or without coordinates.
+    fn with(self, text: &[u8], degrees: Option<(i64, i64)>, is_nowhere: bool) -> Texts {
         if text.is_empty() || text == b"NA".as_slice() {
             return self;
         }
@@ -140,7 +154,11 @@ impl Texts {
             are_halves: self.are_halves && is_half(text),
             are_clocks: self.are_clocks && is_clock(text),
             are_hours: self.are_hours && is_hour(text),
+            are_numbered: self.are_numbered && is_numbered(text),
             are_utc: self.are_utc && is_utc(text),
+            are_of_clocks: self.are_of_clocks && (is_utc(text) || is_of_clock(text)),
+            are_grid_zones: self.are_grid_zones && is_grid_zone(text),
+            is_beside_none: self.is_beside_none || is_nowhere && is_place(text),
             are_of_latitude: self.are_of_latitude && is_side(text, b'N', b'S'),
             are_of_longitude: self.are_of_longitude && is_side(text, b'E', b'W'),
             is_against: self.is_against || is_against(text, degrees),
@@ -166,6 +184,8 @@ impl Texts {
         self.are_halves
             || self.are_clocks
             || self.are_hours
+            || self.are_of_clocks
+            || self.are_grid_zones
             || self.are_of_latitude
             || self.are_of_longitude
             || self.are_classes
@@ -182,10 +202,16 @@ fn degrees_of(row: &Row) -> Option<(i64, i64)> {
     }
 }
 
+// Whether a row tells of no fix, since it has no coordinates.
+fn is_nowhere(row: &Row) -> bool {
+    row.told == Told::LeftOut(Reason::Coordinates)
+}
+
 // Adds the texts that a record has in some columns.
 fn add(texts: &mut [Texts], columns: &[usize], fields: &ByteRecord, row: &Row) {
     for (own, column) in texts.iter_mut().zip(columns) {
-        *own = own.with(fields.get(*column).unwrap_or(b""), degrees_of(row));
+        let text = fields.get(*column).unwrap_or(b"");
+        *own = own.with(text, degrees_of(row), is_nowhere(row));
     }
 }
 
@@ -194,7 +220,8 @@ fn no_texts(alloc: Global, columns: usize) -> Result<Vec<Texts>, OutOfMemory> {
     Ok(vec![in alloc; Texts::none(); columns]?)
 }
 
-/// What the texts of some columns are, of a table whose records say this.
+/// What the texts of some columns are, of a table whose records say this. All records are looked at if one has no coordinates and
+/// one of the columns may have places; and else as many as can tell something.
 ///
 /// # Errors
 ///
@@ -203,14 +230,17 @@ pub fn look_at_unread(
     alloc: Global,
     text: &TableText<'_>,
     columns: &[usize],
+    have_places: bool,
     rows: &[Row],
 ) -> Result<Vec<Texts>, TableFault> {
     let mut table = text.table(alloc)?;
     let Ok(mut texts) = no_texts(alloc, columns.len()) else {
         return Err(TableFault::OutOfMemory);
     };
+    let has_none = have_places && rows.iter().any(is_nowhere);
     for row in rows {
-        if !texts.iter().any(Texts::are_open) || !table.advance()? {
+        let is_open = has_none || texts.iter().any(Texts::are_open);
+        if !is_open || !table.advance()? {
             return Ok(texts);
         }
         add(&mut texts, columns, table.current(), row);

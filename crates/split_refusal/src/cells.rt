@@ -12,7 +12,8 @@ use crate::times::{clock_sentence, missing_time, number_sentence, second_sentenc
 use crate::zones::zone_sentence;
 use range_plane::OutOfMemory;
 use split_reading::CellFault;
-use std::alloc::Global;
+use split_titles::is_of_animal;
+use std::alloc::{AllocError, Global};
 
 // What is said behind a field that is no number, or no mark.
 const NO_NUMBER: &str = " and not a number of up to 12 digits";
@@ -34,18 +35,53 @@ fn count_sentence(alloc: Global, count: usize, wanted: usize) -> Result<Sentence
     })
 }
 
-// That a record names no animal in this field.
-fn unnamed_sentence(alloc: Global, field: Field<'_>) -> Result<Sentence, OutOfMemory> {
+// The first other column with a usual title of the animal in which a record has something.
+fn other_animal<'a>(shown: &RecordShown<'a>) -> Option<Field<'a>> {
+    for column in 0..shown.titles.len() {
+        let field = field_in(shown, column);
+        let has_text = !without_blanks(field.cell).is_empty();
+        if has_text && is_of_animal(field.title) && !shown.animal.contains(&column) {
+            return Some(field);
+        }
+    }
+    None
+}
+
+// Appends that a record has an animal in another column, where it does, and how both are read.
+fn push_other_animal(
+    text: &mut Vec<u8>,
+    field: Field<'_>,
+    other: Option<Field<'_>>,
+) -> Result<(), AllocError> {
+    let Some(other) = other else {
+        return Ok(());
+    };
+    push(text, "; and ")?;
+    text.extend_from_slice(other.title)?;
+    push(text, " has one, which is taken there by --animal '")?;
+    text.extend_from_slice(field.title)?;
+    push(text, ",")?;
+    text.extend_from_slice(other.title)?;
+    push(text, "'")
+}
+
+// That a record names no animal in this field, and perhaps in another one.
+fn unnamed_sentence(
+    alloc: Global,
+    field: Field<'_>,
+    other: Option<Field<'_>>,
+) -> Result<Sentence, OutOfMemory> {
     let mut text = Vec::new(alloc);
     if without_blanks(field.cell).is_empty() {
         push(&mut text, "there is no ")?;
         text.extend_from_slice(field.title)?;
         push(&mut text, ", and --skip-unnamed leaves such records out")?;
+        push_other_animal(&mut text, field, other)?;
     } else {
         push_field(
             &mut text,
             field,
-            ", which --na names, and so no animal: leave it out of --na",
+            ", a word of --na, and so no animal: leave it out of --na, or --skip-unnamed leaves such records out",
         )?;
     }
     Ok(Sentence {
@@ -152,7 +188,7 @@ fn sentence_of_cell(
         CellFault::NotZone { column } => zone_sentence(alloc, field_in(shown, column)),
         _ => {
             let animal = field_at(shown.titles, shown.fields, shown.animal.first().copied());
-            unnamed_sentence(alloc, animal)
+            unnamed_sentence(alloc, animal, other_animal(shown))
         }
     }
 }

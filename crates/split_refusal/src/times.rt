@@ -171,7 +171,7 @@ pub(crate) fn missing_time(
     push_field(
         &mut text,
         field,
-        ", which --na names, and so no time: leave it out of --na",
+        ", a word of --na, and so no time: leave it out of --na",
     )?;
     Ok(Sentence {
         kind: Kind::Time,

@@ -4,6 +4,7 @@ use crate::said::Said;
 use crate::words::{push, push_quoted};
 use indexmap::{IndexMap, IndexSet};
 use range_plane::OutOfMemory;
+use range_texts::is_unseen;
 use std::alloc::{AllocError, Global};
 use unicode_normalization::to_nfkc;
 
@@ -70,19 +71,16 @@ fn likeness(alloc: Global, name: &[u8]) -> Result<Vec<u8>, OutOfMemory> {
     }
 }
 
-// Whether a character takes no place: a break of words or lines, a joiner, or the mark of a byte order.
-fn is_unseen(character: char) -> bool {
-    matches!(
-        character,
-        '\u{AD}' | '\u{200B}' | '\u{200C}' | '\u{200D}' | '\u{2060}' | '\u{FEFF}'
-    )
+// Whether a character takes no place: it is not seen, and is no blank.
+fn takes_no_place(character: char) -> bool {
+    is_unseen(character) && !character.is_whitespace()
 }
 
 // A text without characters that take no place.
 fn without_unseen(alloc: Global, text: &str) -> Result<String, OutOfMemory> {
     let mut seen = String::new(alloc);
     for character in text.chars() {
-        if !is_unseen(character) {
+        if !takes_no_place(character) {
             seen.push(character)?;
         }
     }

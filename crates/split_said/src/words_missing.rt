@@ -4,17 +4,84 @@ use crate::said::Said;
 use crate::words::{push, push_number, push_quoted};
 use indexmap::IndexSet;
 use range_plane::OutOfMemory;
+use range_texts::is_unseen;
 use std::alloc::{AllocError, Global};
 
 // What tables write where something is missing, in small letters.
-const MISSING: [&[u8]; 11] = [
-    b"na", b"n/a", b"#n/a", b"null", b"nan", b"none", b"nil", b"missing", b"-", b"--", b"?",
+const MISSING: [&[u8]; 14] = [
+    b"na",
+    b"n/a",
+    b"n.a",
+    b"n/d",
+    b"nat",
+    b"null",
+    b"nan",
+    b"none",
+    b"nil",
+    b"missing",
+    b"undefined",
+    b"unknown",
+    b"not available",
+    b"na_character",
 ];
 
-// Whether a name is one of these words, or blanks alone.
+// Whether a byte is a sign that may stand around such a word, or for what is missing.
+fn is_around(byte: u8) -> bool {
+    matches!(
+        byte,
+        b' ' | b'\t'
+            | b'<'
+            | b'>'
+            | b'#'
+            | b'?'
+            | b'-'
+            | b'.'
+            | b'('
+            | b')'
+            | b'['
+            | b']'
+            | b'_'
+            | b'!'
+            | b'*'
+            | b'/'
+            | b'\\'
+            | b'"'
+            | b'\''
+            | b'`'
+            | b'+'
+    )
+}
+
+// A text without such signs at its start.
+fn behind_signs(text: &[u8]) -> &[u8] {
+    let length = text.iter().position(|byte| !is_around(*byte));
+    text.get(length.unwrap_or(text.len())..).unwrap_or(b"")
+}
+
+// A text without such signs at its end.
+fn before_signs(text: &[u8]) -> &[u8] {
+    let mut rest = text;
+    for _sign in 0..text.len() {
+        match rest {
+            [others @ .., last] if is_around(*last) => rest = others,
+            _ => return rest,
+        }
+    }
+    rest
+}
+
+// Whether characters are blanks of Unicode alone, or such as are not seen.
+fn are_blanks(name: &[u8]) -> bool {
+    match str::from_utf8(name) {
+        Ok(text) => text.chars().all(|character| character.is_whitespace() || is_unseen(character)),
+        Err(_) => false,
+    }
+}
+
+// Whether a name is one of these words, in whatever signs, or signs or blanks alone.
 fn is_missing(name: &[u8]) -> bool {
-    let own = name.trim_ascii();
-    own.is_empty() || MISSING.iter().any(|word| own.eq_ignore_ascii_case(word))
+    let own = before_signs(behind_signs(name));
+    own.is_empty() || are_blanks(name) || MISSING.iter().any(|word| own.eq_ignore_ascii_case(word))
 }
 
 // Says a question for each name that looks as if there were no animal, of animals that have so many records.

@@ -1,51 +1,41 @@
 // What titles say of the clock of their times.
 
-use crate::units::parts_words;
+use crate::words::{begins_at, is_one_of, word_from};
 
-// Words for clocks that are not that of UTC. Abbreviations of zones that are other words too, as `cat`, `eat`, `ist`, `wet` and
-// the German `Ast` and `Pkt`, are none.
-const LOCAL_WORDS: [&str; 41] = [
+// Words for the clock of a place that is not named, in the languages of tables.
+const NAMELESS: [&str; 24] = [
     "local",
+    "locale",
+    "locales",
     "localtime",
     "localdate",
+    "localdatetime",
+    "localtimestamp",
+    "timelocal",
+    "datelocal",
     "lmt",
-    "cet",
-    "cest",
-    "mez",
-    "mesz",
-    "est",
-    "edt",
-    "cst",
-    "cdt",
-    "mst",
-    "mdt",
-    "pst",
-    "pdt",
-    "hst",
-    "akst",
-    "akdt",
-    "adt",
-    "nst",
-    "ndt",
-    "brt",
-    "clt",
-    "bst",
-    "eet",
-    "eest",
-    "msk",
-    "wat",
-    "sast",
-    "hkt",
-    "sgt",
-    "jst",
-    "kst",
-    "awst",
-    "acst",
-    "acdt",
-    "aest",
-    "aedt",
-    "nzst",
-    "nzdt",
+    "lt",
+    "lokal",
+    "lokale",
+    "lokaler",
+    "lokales",
+    "lokalen",
+    "lokaal",
+    "lokalt",
+    "lokaltid",
+    "lokalno",
+    "lokalny",
+    "lokalzeit",
+    "ortszeit",
+    "wallclock",
+];
+
+// Words for other clocks that are not that of UTC. Abbreviations of zones that are other words too, as `cat`, `eat`, `ist`, `wet` and
+// the German `Ast` and `Pkt`, are none.
+const LOCAL_WORDS: [&str; 38] = [
+    "dst", "cet", "cest", "mez", "mesz", "est", "edt", "cst", "cdt", "mst", "mdt", "pst", "pdt",
+    "hst", "akst", "akdt", "adt", "nst", "ndt", "brt", "clt", "bst", "eet", "eest", "msk", "wat",
+    "sast", "hkt", "sgt", "jst", "kst", "awst", "acst", "acdt", "aest", "aedt", "nzst", "nzdt",
 ];
 
 // What names of zones begin with, before a `/`.
@@ -92,6 +82,28 @@ pub(crate) enum ClockSaid<'t> {
     Utc(&'t [u8]),
     // Another one, by this word.
     Local(&'t [u8]),
+}
+
+// Whether a byte stands between words of a title and before an offset.
+fn parts_words(byte: u8) -> bool {
+    match byte {
+        b' '
+        | b'\t'
+        | b'_'
+        | b'.'
+        | b'/'
+        | b'-'
+        | b':'
+        | b','
+        | b';'
+        | b'('
+        | b')'
+        | b'['
+        | b']'
+        | b'{'
+        | b'}' => true,
+        _ => false,
+    }
 }
 
 // The start of a text, of at most this length.
@@ -162,9 +174,13 @@ fn is_minute(tens: u8, ones: u8) -> bool {
     (b'0'..=b'5').contains(&tens) && ones.is_ascii_digit()
 }
 
-// Whether digits are those of an offset, as `3`, `03`, `3.5`, `3:30`, `03:30` and `0330`.
+// Whether digits are those of an offset, as `3`, `03`, `3.5`, `3.30`, `3:30`, `03:30` and `0330`.
 fn is_offset(digits: &[u8]) -> bool {
     match digits {
+        [hour, b'.', b'0' | b'3', b'0'] | [hour, b'.', b'4', b'5'] => is_hour(b'0', *hour),
+        [tens, hour, b'.', b'0' | b'3', b'0'] | [tens, hour, b'.', b'4', b'5'] => {
+            is_hour(*tens, *hour)
+        }
         [hour] | [hour, b'.', b'0' | b'5'] | [hour, b'.', b'7', b'5'] => is_hour(b'0', *hour),
         [tens, hour] | [tens, hour, b'.', b'0' | b'5'] | [tens, hour, b'.', b'7', b'5'] => {
             is_hour(*tens, *hour)
@@ -264,56 +280,61 @@ fn region_at(text: &[u8]) -> Option<&[u8]> {
 
 // What follows `UTC` or `GMT` at the start of a text, if that is a word.
 fn behind_utc(text: &[u8]) -> Option<&[u8]> {
-    let word = start_of(text, 3);
-    let is_utc = word.eq_ignore_ascii_case(b"utc") || word.eq_ignore_ascii_case(b"gmt");
-    let rest = behind(text, 3);
-    match rest.first() {
-        _ if !is_utc => None,
-        Some(next) if !parts_words(*next) && *next != b'+' => None,
-        _ => Some(rest),
+    if is_one_of(word_from(text, 0), &["utc", "gmt"]) {
+        Some(behind(text, 3))
+    } else {
+        None
     }
 }
 
 // What the word at the start of a text says, which is not that of UTC.
 fn local_at(text: &[u8]) -> ClockSaid<'_> {
-    let word = start_of(text, word_length(text));
-    let is_local = LOCAL_WORDS
-        .iter()
-        .any(|own| word.eq_ignore_ascii_case(own.as_bytes()));
-    if is_local {
+    let word = word_from(text, 0);
+    if is_one_of(word, &NAMELESS) || is_one_of(word, &LOCAL_WORDS) {
         ClockSaid::Local(word)
     } else {
         ClockSaid::Nothing
     }
 }
 
-// A text without a blank or a sign in its place at its start.
-fn without_gap(text: &[u8]) -> &[u8] {
-    match text {
-        [b' ' | b'_', rest @ ..] => rest,
-        _ => text,
-    }
+// Whether a byte is a blank, or stands in its place.
+fn is_gap(byte: u8) -> bool {
+    byte == b' ' || byte == b'_' || byte == b'.'
 }
 
-// What follows a sign at the start of a text, or a word for one.
-fn behind_sign(text: &[u8]) -> Option<&[u8]> {
+// A text without the blanks, and the signs in their place, at its start.
+fn without_gaps(text: &[u8]) -> &[u8] {
+    let length = text.iter().position(|byte| !is_gap(*byte));
+    behind(text, length.unwrap_or(text.len()))
+}
+
+// Whether what a text begins with is a sign, or a word for one: whether it is ahead of UTC, and what follows.
+fn behind_sign(text: &[u8]) -> Option<(bool, &[u8])> {
     match text {
-        [b'+' | b'-', rest @ ..] => Some(rest),
-        _ if start_of(text, 4).eq_ignore_ascii_case(b"plus") => Some(behind(text, 4)),
-        _ if start_of(text, 5).eq_ignore_ascii_case(b"minus") => Some(behind(text, 5)),
+        [b'+', rest @ ..] => Some((true, rest)),
+        [b'-', rest @ ..] => Some((false, rest)),
+        _ if start_of(text, 4).eq_ignore_ascii_case(b"plus") => Some((true, behind(text, 4))),
+        _ if start_of(text, 5).eq_ignore_ascii_case(b"minus") => Some((false, behind(text, 5))),
         _ => None,
     }
 }
 
-// How long an offset with gaps or a word for its sign is behind `UTC`, as in ` + 2` and `_plus_2`; 0 where there is none.
+// Whether an offset may end before the start of a text that R or a person wrote, who have signs in the place of brackets.
+fn may_end_before(text: &[u8]) -> bool {
+    may_end(text) || text.first().is_some_and(|byte| is_gap(*byte))
+}
+
+// How long an offset with gaps or a word for its sign is behind `UTC`, as in ` + 2` and `_plus_2`, or one whose sign is lost, as
+// R writes `.2.` for `+2)`; 0 where there is none.
 fn spelled_length(text: &[u8]) -> usize {
-    let Some(rest) = behind_sign(without_gap(text)) else {
-        return 0;
+    let rest = without_gaps(text);
+    let rest = match behind_sign(rest) {
+        Some((_, behind)) => without_gaps(behind),
+        None => rest,
     };
-    let rest = without_gap(rest);
     let digits = start_of(rest, digits_length(rest));
     let tail = behind(rest, digits.len());
-    let is_one = is_offset(digits) && may_end(tail);
+    let is_one = is_offset(digits) && may_end_before(tail);
     if is_one && digits.iter().any(|byte| (b'1'..=b'9').contains(byte)) {
         text.len().saturating_sub(tail.len())
     } else {
@@ -354,13 +375,16 @@ fn word_at(text: &[u8]) -> ClockSaid<'_> {
 // What stands at a place of a title says, if a word or an offset begins there.
 fn said_at(title: &[u8], place: usize) -> ClockSaid<'_> {
     let text = behind(title, place);
+    let word = if begins_at(title, place) {
+        word_at(text)
+    } else {
+        ClockSaid::Nothing
+    };
     match place.checked_sub(1).and_then(|before| title.get(before)) {
-        None => word_at(text),
-        Some(before) if !parts_words(*before) => ClockSaid::Nothing,
-        Some(before) => match word_at(text) {
-            ClockSaid::Nothing => offset_at(*before, text),
-            said => said,
-        },
+        Some(before) if word == ClockSaid::Nothing && parts_words(*before) => {
+            offset_at(*before, text)
+        }
+        _ => word,
     }
 }
 
@@ -393,22 +417,41 @@ fn without_etc(zone: &[u8]) -> &[u8] {
     }
 }
 
-// Whether a word says a clock without a name.
-fn is_nameless(word: &[u8]) -> bool {
-    let start = start_of(word, 5);
-    start.eq_ignore_ascii_case(b"local") || start.eq_ignore_ascii_case(b"lmt")
+// The digits of an offset behind the name of UTC, or of one alone, and whether it is ahead of UTC, if its sign is there.
+fn offset_of(word: &[u8]) -> Option<(Option<bool>, &[u8])> {
+    let rest = match behind_utc(word) {
+        Some(rest) => without_gaps(rest),
+        None => word,
+    };
+    let (is_ahead, digits) = match behind_sign(rest) {
+        Some((is_ahead, digits)) => (Some(is_ahead), without_gaps(digits)),
+        None if rest.len() < word.len() => (None, rest),
+        None => return None,
+    };
+    if is_offset(digits) {
+        Some((is_ahead, digits))
+    } else {
+        None
+    }
 }
 
-// Whether a zone is of the offset of so many hours, ahead of UTC or behind it, as far as its name tells.
-fn may_have(zone: &[u8], is_ahead: bool, hours: &[u8]) -> bool {
+// Whether a word says an offset from UTC.
+pub(crate) fn is_of_offset(word: &[u8]) -> bool {
+    offset_of(word).is_some()
+}
+
+// Whether an offset, ahead of UTC or behind it as far as that is known, is another one than that of a zone, as far as the name of
+// that tells.
+fn is_other_offset(is_ahead: Option<bool>, digits: &[u8], zone: &[u8]) -> bool {
     if is_of_utc(zone) {
-        return false;
+        return true;
     }
-    match whole_hours(zone) {
-        Some((is_behind, own)) if without_etc(zone).len() < zone.len() => {
-            own == hours && is_behind != is_ahead
+    let own = without_etc(zone);
+    match offset_of(own) {
+        Some((Some(is_behind), hours)) if own.len() < zone.len() => {
+            hours_of(digits) != hours_of(hours) || is_ahead == Some(is_behind)
         }
-        _ => true,
+        _ => false,
     }
 }
 
@@ -417,9 +460,9 @@ pub(crate) fn is_other_clock(word: &[u8], zone: &[u8]) -> bool {
     if is_zone(word) {
         return !word.eq_ignore_ascii_case(zone);
     }
-    match whole_hours(word) {
-        Some((is_ahead, hours)) => !may_have(zone, is_ahead, hours),
-        None => is_of_utc(zone) && !is_nameless(word),
+    match offset_of(word) {
+        Some((is_ahead, digits)) => is_other_offset(is_ahead, digits, zone),
+        None => is_of_utc(zone) && !is_one_of(word, &NAMELESS),
     }
 }
 
@@ -437,23 +480,28 @@ pub(crate) fn is_zone(word: &[u8]) -> bool {
     is_of_area && word.contains(&b'/')
 }
 
-// The hours of an offset, without `00` minutes behind them.
-fn without_minutes(digits: &[u8]) -> &[u8] {
-    match digits {
-        [_, b':', b'0', b'0'] => start_of(digits, 1),
-        [_, _, b':', b'0', b'0'] | [_, _, b'0', b'0'] => start_of(digits, 2),
+// The hours of an offset, without a 0 before them and minutes of `00` behind them; or all of its digits, where it has other
+// minutes.
+fn hours_of(digits: &[u8]) -> &[u8] {
+    let hours = match digits {
+        [_, b':' | b'.', b'0', b'0'] | [_, b'.', b'0'] => start_of(digits, 1),
+        [_, _, b':' | b'.', b'0', b'0'] | [_, _, b'0', b'0'] | [_, _, b'.', b'0'] => {
+            start_of(digits, 2)
+        }
         _ => digits,
-    }
+    };
+    hours.strip_prefix(b"0").unwrap_or(hours)
 }
 
 // The hours of an offset that is of whole hours, and whether it is ahead of UTC.
 pub(crate) fn whole_hours(word: &[u8]) -> Option<(bool, &[u8])> {
-    let place = word.iter().position(|byte| *byte == b'+' || *byte == b'-')?;
-    let (sign, digits) = behind(word, place).split_first()?;
-    let hours = without_minutes(digits);
-    let hours = hours.strip_prefix(b"0").unwrap_or(hours);
+    let (Some(is_ahead), digits) = offset_of(word)? else {
+        return None;
+    };
+    let hours = hours_of(digits);
     match hours {
-        [b'1'..=b'9'] | [b'1', b'0'..=b'2'] => Some((*sign == b'+', hours)),
+        [b'1'..=b'9'] | [b'1', b'0'..=b'2'] => Some((is_ahead, hours)),
+        [b'1', b'3' | b'4'] if is_ahead => Some((is_ahead, hours)),
         _ => None,
     }
 }

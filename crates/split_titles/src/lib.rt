@@ -18,13 +18,16 @@ mod sentences;
 mod sentences_of_said;
 mod units;
 mod usual;
+mod words;
 
 pub use columns::{Columns, Marks, Pair, is_read, not_read};
 pub use fault::{FaultKind, PassedOver, TitleFault};
 pub use find::find_columns;
 pub use makers::maker_of;
 pub use named::{Named, Role};
+pub use passed_over::is_of_places;
 pub use plain::{comes_to, trimmed};
 pub use presets::{GPX, PRESETS, Preset, preset_of};
 pub use sentences::{fault_text, push_shown, start_of_sign};
-pub use usual::COLUMN_LIMIT;
+pub use usual::{COLUMN_LIMIT, is_of_animal};
+pub use words::{first_word, has_word};

@@ -6,9 +6,11 @@ use crate::lookup::{is_usual, require};
 use crate::named::{Named, Role};
 use crate::plain::comes_to;
 use crate::usual::{
-    ALGORITHM_OUTLIER, ARGOS_CLASSES, DOPS, FIX_TYPES, IMPORT_OUTLIER, MANUAL_OUTLIER,
-    MANUAL_VALID, ODD_CLASSES, ODD_MARKS, SENSOR, SENSOR_NUMBER, TIMES, USE, UTM_ZONE, VISIBLE,
+    ALGORITHM_OUTLIER, ARGOS_CLASSES, DEGREES, DOPS, FAMILIES, FIX_TYPES, Family, IMPORT_OUTLIER,
+    MANUAL_OUTLIER, MANUAL_VALID, MARK_WORDS, NO_MARKS, ODD_CLASSES, SATELLITE_WORDS, SENSOR,
+    SENSOR_NUMBER, TIMES, USE, UTM_ZONE, VISIBLE,
 };
+use crate::words::has_word;
 use std::alloc::Allocator;
 
 // Titles of marks and of sensors, which no option names.
@@ -22,6 +24,20 @@ const UNNAMED: [&str; 8] = [
     SENSOR,
     SENSOR_NUMBER,
 ];
+
+// Whether a title comes to one of two.
+fn is_of_pair(title: &[u8], pair: (&str, &str)) -> bool {
+    comes_to(title, pair.0.as_bytes()) || comes_to(title, pair.1.as_bytes())
+}
+
+/// Whether a title is a usual one of coordinates, and no `x`, as which R writes numbers of rows.
+pub fn is_of_places(title: &[u8]) -> bool {
+    let is_of_metres = FAMILIES
+        .iter()
+        .any(|family| is_of_pair(title, family.metres()));
+    let is_of_degrees = DEGREES.iter().any(|pair| is_of_pair(title, *pair));
+    !comes_to(title, b"x") && (is_of_metres || is_of_degrees)
+}
 
 // The first column of one of these titles that is not read.
 fn unread<A: Allocator>(titles: &[&[u8]], columns: &Columns<A>, usuals: &[&str]) -> Option<usize> {
@@ -62,6 +78,22 @@ fn refuse_classes<'a, A: Allocator>(
     }
 }
 
+// Whether a word of a title says that a column may have marks.
+fn may_be_mark(title: &[u8]) -> bool {
+    let is_other = has_word(title, &SATELLITE_WORDS) || is_usual(title, &NO_MARKS);
+    has_word(title, &MARK_WORDS) && !is_other
+}
+
+// The first column that may have marks, and is not read.
+fn unread_mark<A: Allocator>(titles: &[&[u8]], columns: &Columns<A>) -> Option<usize> {
+    for (at, own) in titles.iter().enumerate() {
+        if may_be_mark(own) && !is_read(columns, at) {
+            return Some(at);
+        }
+    }
+    None
+}
+
 // Refuses a column that may have marks, unless the column `use` says which fixes are used.
 fn refuse_marks<'a, A: Allocator>(
     titles: &[&[u8]],
@@ -70,7 +102,7 @@ fn refuse_marks<'a, A: Allocator>(
     if columns.marks.usage.is_some() {
         return Ok(());
     }
-    match unread(titles, columns, &ODD_MARKS) {
+    match unread_mark(titles, columns) {
         Some(at) => Err(TitleFault::PassedOver {
             at,
             what: PassedOver::Mark,
@@ -143,6 +175,63 @@ fn refuse_twins<'a, A: Allocator>(
     Ok(())
 }
 
+// Refuses two pairs of columns of the same two titles of coordinates, of which one is read and the other is not.
+fn refuse_pair<'a, A: Allocator>(
+    titles: &[&[u8]],
+    columns: &Columns<A>,
+    pair: (&str, &str),
+    role: Role,
+) -> Result<(), TitleFault<'a>> {
+    match (
+        twins(titles, columns, pair.0),
+        twins(titles, columns, pair.1),
+    ) {
+        (Some((first, second)), Some(_)) => Err(TitleFault::OneRole {
+            first,
+            second,
+            role,
+        }),
+        _ => Ok(()),
+    }
+}
+
+// Refuses two pairs of metres of the same titles, but for `x` and `y`, beside which tables have degrees as `X` and `Y`.
+fn refuse_metres<'a, A: Allocator>(
+    titles: &[&[u8]],
+    columns: &Columns<A>,
+) -> Result<(), TitleFault<'a>> {
+    for family in FAMILIES.iter() {
+        if *family != Family::Adehabitat {
+            refuse_pair(titles, columns, family.metres(), Role::Easting)?;
+        }
+    }
+    Ok(())
+}
+
+// Refuses two pairs of degrees of the same titles.
+fn refuse_degrees<'a, A: Allocator>(
+    titles: &[&[u8]],
+    columns: &Columns<A>,
+) -> Result<(), TitleFault<'a>> {
+    for pair in DEGREES.iter() {
+        refuse_pair(titles, columns, *pair, Role::Longitude)?;
+    }
+    Ok(())
+}
+
+// Refuses two pairs of coordinates of the same titles, unless one was named.
+fn refuse_pairs<'a, A: Allocator>(
+    titles: &[&[u8]],
+    named: &Named<'a>,
+    columns: &Columns<A>,
+) -> Result<(), TitleFault<'a>> {
+    if named.easting.is_some() || named.lon.is_some() {
+        return Ok(());
+    }
+    refuse_metres(titles, columns)?;
+    refuse_degrees(titles, columns)
+}
+
 // Refuses two columns of one title that says which fixes count, or when they were, and that was not named, of which one is read
 // and the other is not.
 fn refuse_all_twins<'a, A: Allocator>(
@@ -150,6 +239,7 @@ fn refuse_all_twins<'a, A: Allocator>(
     named: &Named<'a>,
     columns: &Columns<A>,
 ) -> Result<(), TitleFault<'a>> {
+    refuse_pairs(titles, named, columns)?;
     refuse_twins(titles, columns, &UNNAMED, false)?;
     refuse_twins(titles, columns, &TIMES, !named.time.is_empty())?;
     refuse_twins(titles, columns, &ARGOS_CLASSES, named.argos.is_some())?;
@@ -164,7 +254,7 @@ pub(crate) fn refuse_passed_over<'a, A: Allocator>(
     columns: &Columns<A>,
 ) -> Result<(), TitleFault<'a>> {
     refuse_classes(titles, named, columns)?;
-    refuse_marks(titles, columns)?;
     refuse_zone(titles, named, columns)?;
-    refuse_all_twins(titles, named, columns)
+    refuse_all_twins(titles, named, columns)?;
+    refuse_marks(titles, columns)
 }

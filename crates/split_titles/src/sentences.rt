@@ -278,8 +278,13 @@ fn push_one_role<A: Allocator>(
     push_both(text, titles, first, second, role.words())?;
     push(text, ": name one, as by ")?;
     push_option(text, role.option(), title_at(titles, first))?;
-    if are_parts_of_time(titles, first, second, role) {
-        push(text, ", or both, as by ")?;
+    if role == Role::Animal || are_parts_of_time(titles, first, second, role) {
+        let words = if role == Role::Animal {
+            ", or both, where one has the animals that the other has not, as by "
+        } else {
+            ", or both, as by "
+        };
+        push(text, words)?;
         push_option(text, role.option(), title_at(titles, first))?;
         push(text, ",")?;
         text.extend_from_slice(title_at(titles, second))?;

@@ -1,6 +1,6 @@
 // The sentences in which a table is refused for what a title says of units and clocks.
 
-use crate::clocks::{ClockSaid, clock_said, is_zone, whole_hours};
+use crate::clocks::{ClockSaid, clock_said, is_of_offset, is_zone, whole_hours};
 use crate::sentences::{push, push_column, title_at};
 use crate::units::unit_said;
 use std::alloc::{AllocError, Allocator};
@@ -39,12 +39,22 @@ pub(crate) fn push_unit<A: Allocator>(
     }
 }
 
-// Appends the zone that a word names, or that of its offset of whole hours, or else one as an example.
-fn push_zone<A: Allocator>(text: &mut Vec<u8, A>, word: &[u8]) -> Result<(), AllocError> {
-    if is_zone(word) {
-        return text.extend_from_slice(word);
+// Appends that its zone is to be named: the one that a word names, or that of its offset of whole hours, or else one as an example,
+// but none for another offset.
+fn push_zone<A: Allocator>(
+    text: &mut Vec<u8, A>,
+    whose: &str,
+    word: &[u8],
+) -> Result<(), AllocError> {
+    let hours = whole_hours(word);
+    if hours.is_none() && is_of_offset(word) {
+        return push(text, ": name a zone of that offset, by --tz");
     }
-    match whole_hours(word) {
+    push(text, ": name ")?;
+    push(text, whose)?;
+    push(text, " zone, as by --tz ")?;
+    match hours {
+        _ if is_zone(word) => text.extend_from_slice(word),
         Some((is_ahead, hours)) => {
             push(text, if is_ahead { "Etc/GMT-" } else { "Etc/GMT+" })?;
             text.extend_from_slice(hours)
@@ -64,11 +74,8 @@ pub(crate) fn push_local<A: Allocator>(
         _ => b"",
     };
     push_says(text, titles, at, word)?;
-    push(
-        text,
-        ", and without --tz times are those of UTC: name their zone, as by --tz ",
-    )?;
-    push_zone(text, word)
+    push(text, ", and without --tz times are those of UTC")?;
+    push_zone(text, "their", word)
 }
 
 // Appends that a column of the time says another clock than that of a zone.
@@ -85,8 +92,7 @@ pub(crate) fn push_other_clock<A: Allocator>(
     push_says(text, titles, at, word)?;
     push(text, ", and --tz is ")?;
     text.extend_from_slice(zone)?;
-    push(text, ": name its own zone, as by --tz ")?;
-    push_zone(text, word)?;
+    push_zone(text, "its own", word)?;
     push(text, ", or rename the column")
 }
 

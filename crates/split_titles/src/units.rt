@@ -1,87 +1,247 @@
-// Words of titles, and what they say of units.
+// What titles say of units.
 
-// Units of lengths that are not metres.
-const LENGTHS: [&str; 29] = [
-    "km",
-    "kilometre",
-    "kilometres",
-    "kilometer",
-    "kilometers",
-    "ft",
-    "foot",
-    "feet",
-    "usft",
-    "mi",
-    "mile",
-    "miles",
-    "yd",
-    "yard",
-    "yards",
-    "mm",
-    "millimetre",
-    "millimetres",
-    "millimeter",
-    "millimeters",
-    "cm",
-    "centimetre",
-    "centimetres",
-    "centimeter",
-    "centimeters",
-    "dm",
-    "decimetre",
-    "decimetres",
-    "decimeters",
+use crate::words::{first_word, is_one_of, word_from};
+
+// Short names of units of lengths that are not metres, and names of such that metres are no part of.
+const LENGTHS: [&str; 47] = [
+    "km", "hm", "dam", "dm", "cm", "mm", "um", "nm", "nmi", "ft", "fts", "foot", "feet", "usft",
+    "ftus", "fuss", "fuß", "pied", "pieds", "pie", "pies", "inch", "inches", "zoll", "pouce",
+    "pouces", "pulgada", "pulgadas", "mi", "mile", "miles", "meile", "meilen", "milla", "millas",
+    "milha", "milhas", "yd", "yds", "yard", "yards", "chain", "chains", "fathom", "fathoms",
+    "furlong", "furlongs",
+];
+
+// What metres are called, in the languages of tables.
+const METRES: [&str; 11] = [
+    "metre", "metres", "meter", "meters", "metern", "mètre", "mètres", "metro", "metros", "metri",
+    "metra",
+];
+
+// What stands before them in the names of their multiples and parts.
+const PARTS: [&str; 28] = [
+    "kilo", "kiló", "quilo", "quiló", "quilô", "chilo", "hecto", "hectó", "hekto", "etto", "deca",
+    "decá", "deka", "déca", "deci", "decí", "déci", "dezi", "centi", "centí", "zenti", "milli",
+    "mili", "milí", "micro", "mikro", "nano", "mega",
 ];
 
 // Units of angles that are not degrees with decimals.
-const ANGLES: [&str; 12] = [
-    "rad", "radian", "radians", "gon", "gons", "grad", "e5", "e6", "e7", "1e7", "dms", "ddm",
+const ANGLES: [&str; 35] = [
+    "rad",
+    "rads",
+    "radian",
+    "radians",
+    "radiant",
+    "radianes",
+    "mrad",
+    "milliradian",
+    "milliradians",
+    "gon",
+    "gons",
+    "gradian",
+    "gradians",
+    "grad",
+    "grads",
+    "grade",
+    "grades",
+    "arcmin",
+    "arcmins",
+    "arcminute",
+    "arcminutes",
+    "arcsec",
+    "arcsecs",
+    "arcsecond",
+    "arcseconds",
+    "mas",
+    "microdegree",
+    "microdegrees",
+    "microdeg",
+    "udeg",
+    "millidegree",
+    "millidegrees",
+    "millideg",
+    "dms",
+    "ddm",
 ];
 
-// Whether a byte stands between words of a title.
-pub(crate) fn parts_words(byte: u8) -> bool {
-    match byte {
-        b' '
-        | b'\t'
-        | b'_'
-        | b'.'
-        | b'/'
-        | b'-'
-        | b':'
-        | b','
-        | b';'
-        | b'('
-        | b')'
-        | b'['
-        | b']'
-        | b'{'
-        | b'}' => true,
-        _ => false,
+// Words that may stand alone between brackets behind the title of a coordinate, and say no unit other than metres and degrees: names
+// of these, of systems, of axes and of what was done to it.
+const KNOWN: [&str; 92] = [
+    "m",
+    "metre",
+    "metres",
+    "meter",
+    "meters",
+    "metern",
+    "mètre",
+    "mètres",
+    "metro",
+    "metros",
+    "metri",
+    "metra",
+    "deg",
+    "degs",
+    "degree",
+    "degrees",
+    "degré",
+    "degrés",
+    "grado",
+    "grados",
+    "grau",
+    "graus",
+    "gradi",
+    "decdeg",
+    "dd",
+    "decimal",
+    "dec",
+    "ddeg",
+    "wgs",
+    "utm",
+    "etrs",
+    "nad",
+    "gda",
+    "epsg",
+    "crs",
+    "srs",
+    "srid",
+    "gps",
+    "gnss",
+    "argos",
+    "lambert",
+    "mercator",
+    "laea",
+    "lcc",
+    "albers",
+    "aea",
+    "proj",
+    "projected",
+    "projection",
+    "lv",
+    "ch",
+    "rgf",
+    "rd",
+    "osgb",
+    "bng",
+    "itm",
+    "itrf",
+    "nztm",
+    "sirgas",
+    "mga",
+    "gk",
+    "gauss",
+    "tm",
+    "ups",
+    "mgi",
+    "sweref",
+    "euref",
+    "ed",
+    "n",
+    "s",
+    "e",
+    "w",
+    "o",
+    "east",
+    "west",
+    "north",
+    "south",
+    "x",
+    "y",
+    "long",
+    "lon",
+    "lat",
+    "raw",
+    "corrected",
+    "filtered",
+    "smoothed",
+    "estimated",
+    "mean",
+    "median",
+    "centroid",
+    "true",
+    "final",
+];
+
+// Whether a word is the name of metres behind this text.
+fn is_metres_behind(word: &[u8], part: &[u8]) -> bool {
+    match word.split_at_checked(part.len()) {
+        Some((start, rest)) => start.eq_ignore_ascii_case(part) && is_one_of(rest, &METRES),
+        None => false,
     }
 }
 
-// Whether a word is one of these, in small or capital letters.
-fn is_one_of(word: &[u8], words: &[&str]) -> bool {
-    words
+// Whether a word is a multiple or a part of metres.
+fn is_of_metres(word: &[u8]) -> bool {
+    PARTS
         .iter()
-        .any(|own| word.eq_ignore_ascii_case(own.as_bytes()))
+        .any(|part| is_metres_behind(word, part.as_bytes()))
 }
 
-// The first word of a title that is one of these.
-fn first_of_words<'t>(title: &'t [u8], words: &[&str]) -> Option<&'t [u8]> {
-    for word in title.split(|byte| parts_words(*byte)) {
-        if is_one_of(word, words) {
+// The first word of a title that is a multiple or a part of metres.
+fn first_of_metres(title: &[u8]) -> Option<&[u8]> {
+    for place in 0..title.len() {
+        let word = word_from(title, place);
+        if is_of_metres(word) {
             return Some(word);
         }
     }
     None
 }
 
+// The power of ten at the start of a text, as in `e7` and `E-7`; empty where there is none.
+fn power_in(text: &[u8]) -> &[u8] {
+    let length = match text {
+        [b'e' | b'E', b'3'..=b'9', next, ..] if next.is_ascii_alphanumeric() => 0,
+        [b'e' | b'E', b'3'..=b'9', ..] => 2,
+        [b'e' | b'E', b'+' | b'-', b'3'..=b'9', next, ..] if next.is_ascii_alphanumeric() => 0,
+        [b'e' | b'E', b'+' | b'-', b'3'..=b'9', ..] => 3,
+        _ => 0,
+    };
+    text.get(..length).unwrap_or(b"")
+}
+
+// The first power of ten by which a title says that its numbers are multiplied: one that begins a word.
+fn first_power(title: &[u8]) -> Option<&[u8]> {
+    for place in 0..title.len() {
+        if word_from(title, place).len() == 1 {
+            let power = power_in(title.get(place..).unwrap_or(b""));
+            if !power.is_empty() {
+                return Some(power);
+            }
+        }
+    }
+    None
+}
+
+// What stands between brackets at the end of a title; none where nothing does.
+fn bracketed(title: &[u8]) -> Option<&[u8]> {
+    let inside = match title {
+        [inside @ .., b')' | b']' | b'}'] => inside,
+        _ => return None,
+    };
+    let open = inside
+        .iter()
+        .position(|byte| matches!(*byte, b'(' | b'[' | b'{'))?;
+    inside.get(open.saturating_add(1)..)
+}
+
+// The word that stands alone between brackets at the end of a title, if it is none that is known.
+fn unknown_word(title: &[u8]) -> Option<&[u8]> {
+    let inside = bracketed(title)?;
+    let word = inside.trim_ascii();
+    let is_whole = !word.is_empty() && word_from(word, 0).len() == word.len();
+    let has_digits = word.iter().any(|byte| byte.is_ascii_digit());
+    if is_whole && !has_digits && !is_one_of(word, &KNOWN) {
+        Some(word)
+    } else {
+        None
+    }
+}
+
 // The word of a title that says another unit than metres, or than degrees.
 pub(crate) fn unit_said<'t>(title: &'t [u8], is_metres: bool) -> Option<&'t [u8]> {
-    if is_metres {
-        first_of_words(title, &LENGTHS)
+    let own = if is_metres {
+        first_word(title, &LENGTHS).or(first_of_metres(title))
     } else {
-        first_of_words(title, &ANGLES)
-    }
+        first_word(title, &ANGLES).or(first_power(title))
+    };
+    own.or(unknown_word(title))
 }

@@ -1,5 +1,7 @@
 // The usual titles of columns, and the families of tables that have them.
 
+use crate::lookup::is_usual;
+
 /// The most columns of a table, as many as spreadsheets have.
 pub const COLUMN_LIMIT: usize = 16_384;
 
@@ -76,16 +78,41 @@ pub(crate) const ALGORITHM_OUTLIER: &str = "algorithm-marked-outlier";
 pub(crate) const IMPORT_OUTLIER: &str = "import-marked-outlier";
 
 pub(crate) const MANUAL_VALID: &str = "manually-marked-valid";
-// Titles of marks that are not read.
-pub(crate) const ODD_MARKS: [&str; 8] = [
+// Words of titles of marks.
+pub(crate) const MARK_WORDS: [&str; 18] = [
     "outlier",
     "outliers",
-    "is-outlier",
+    "outlying",
     "isoutlier",
+    "isoutliers",
     "valid",
-    "is-valid",
     "isvalid",
-    "event-visible",
+    "invalid",
+    "isinvalid",
+    "visible",
+    "isvisible",
+    "invisible",
+    "ausreisser",
+    "ausreißer",
+    "valide",
+    "valido",
+    "válido",
+    "aberrant",
+];
+// Words of titles of what else is visible.
+pub(crate) const SATELLITE_WORDS: [&str; 6] = [
+    "sat",
+    "sats",
+    "satellite",
+    "satellites",
+    "sv",
+    "svs",
+];
+// Titles of Movebank with such a word, which are no marks: how Argos chose among places, and what was written of a mark.
+pub(crate) const NO_MARKS: [&str; 3] = [
+    "argos-valid-location-algorithm",
+    "argos-valid-location-manual",
+    "outlier-comments",
 ];
 
 pub(crate) const SENSOR: &str = "sensor-type";
@@ -119,6 +146,11 @@ pub(crate) const FIX_TYPES: [&str; 6] = [
     "fixstatus",
     "type-of-fix",
 ];
+
+/// Whether a title is a usual one of the animal.
+pub fn is_of_animal(title: &[u8]) -> bool {
+    is_usual(title, &ANIMALS)
+}
 
 // Tables of one kind, by the titles of their metres.
 #[derive(Clone, Copy, PartialEq, Eq, Debug)]

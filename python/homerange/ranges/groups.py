@@ -4,16 +4,17 @@ each fix or a function says."""
 from __future__ import annotations
 
 from dataclasses import replace
+from datetime import timezone
 from typing import Any, Callable, NamedTuple, Sequence
 
 import numpy
 import pandas
 
 from ..errors import BYTES, UNPRINTABLE, one_line, refuse
-from ..read.cells import cells_of, odd_row, row_named
+from ..read.cells import cells_of, is_time, odd_row, row_named
 from ..read.changes import with_named_levels
 from ..read.fixes import Fixes, reading_of
-from ..read.reading import OWN, ReadTable
+from ..read.reading import OWN, SINCE_1970, ReadTable
 from ..read.refusals import UNREAD
 from .outer import Track
 from .tracks import Tracks
@@ -130,7 +131,7 @@ def aligned(series: pandas.Series, frame: pandas.DataFrame) -> pandas.Series:
 def given(values: pandas.Series, labels: pandas.Index) -> list[str]:
     """The groups that values say, each of which has to be there. Periods are those that pandas names."""
     is_period = isinstance(values.dtype, pandas.PeriodDtype)
-    cells = cells_of(values.astype(str).where(values.notna(), "") if is_period else values)
+    cells = moments_by_clock(values) or cells_of(values.astype(str).where(values.notna(), "") if is_period else values)
     refuse_classes(values, labels)
     has_parts = pandas.api.types.is_float_dtype(values.dtype)
     odd = next((at for at, cell in enumerate(cells)
@@ -142,6 +143,18 @@ def given(values: pandas.Series, labels: pandas.Index) -> list[str]:
     return cells
 
 
+def moments_by_clock(values: pandas.Series) -> list[str] | None:
+    """Moments as their own clock shows them, and as days where all are midnights; None of other values, and of parts of seconds."""
+    if not is_time(values.dtype):
+        return None
+    known = values.dropna()
+    if (known == known.dt.normalize()).all():
+        return [*values.dt.strftime("%Y-%m-%d").fillna("")]
+    if known.dt.tz in (None, timezone.utc) or str(known.dt.tz) == "UTC" or not (known == known.dt.floor("s")).all():
+        return None
+    return ["" if moment is pandas.NaT else moment.isoformat() for moment in values]
+
+
 def refuse_classes(values: pandas.Series, labels: pandas.Index) -> None:
     """Refuses groups of a class that has no text, such as intervals, all of which would be one."""
     odd = odd_row(values)
@@ -151,10 +164,19 @@ def refuse_classes(values: pandas.Series, labels: pandas.Index) -> None:
                "option", at + 1)
 
 
+def why_no_calendar(fixes: Fixes) -> str:
+    """Why seconds have none, and what helps."""
+    are_dates = fixes["second"].between(*SINCE_1970).to_numpy()
+    if are_dates.all() or not are_dates.any():
+        return "seconds have no calendar: read a table with a column of date-times in place of second"
+    return (f"{row_named(fixes.index, int((~are_dates).argmax()))} is not of the years 1973 to 2262, so that the seconds of no row have a "
+            "calendar: leave it out, as by since, or name groups by a column of text")
+
+
 def periods(fixes: Fixes, by: str) -> list[str]:
     """The period of each fix, by the clock of the fixes."""
     if "time" not in fixes:
-        refuse(f"by={by!r}: seconds have no calendar: read a table with a column of date-times in place of second")
+        refuse(f"by={by!r}: {why_no_calendar(fixes)}")
     own = fixes["time"].dt
     months, at = numpy.unique(own.year.to_numpy() * 12 + own.month.to_numpy() - 1, return_inverse=True)
     names = [PERIODS[by](int(month) // 12, int(month) % 12 + 1) for month in months]

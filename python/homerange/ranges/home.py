@@ -8,7 +8,7 @@ import tempfile
 from collections import Counter
 from functools import cached_property
 from pathlib import Path
-from typing import TYPE_CHECKING, Any, Callable, Iterable, Sequence
+from typing import TYPE_CHECKING, Any, Callable, Iterable, Mapping, Sequence
 
 import numpy
 import pandas
@@ -101,8 +101,7 @@ class HomeRanges:
         is not known, as of an animal that got another name); ``level`` in per cent; ``kept``, how many fixes the level
         keeps; and ``corners`` and ``hectares`` of their polygon. Times are whole seconds where they have no date, as those
         since a start of their own."""
-        left_out = self._tracks.left_out if self._tracks else {}
-        rows = []
+        left_out, rows = self._left_by_animal(), []
         for name, table in self._report.tables.items():
             for level, kept, corners, area2 in table.percents:
                 rows.append((
@@ -112,6 +111,15 @@ class HomeRanges:
         summary = pandas.DataFrame(rows, columns=titles)
         times = {title: self._times(summary[title]) for title in ("first", "last")}
         return self.by_group(summary.assign(**times, left_out=summary["left_out"].astype("Int64")))
+
+    def _left_by_animal(self) -> Mapping[str, int]:
+        """How many fixes of each animal were left out, where it is known: by the record of its tracks, or by these."""
+        if self.record is None:
+            return self._tracks.left_out if self._tracks else {}
+        left = Counter[str]()
+        for (name, _), count in self.record.left_out().items():
+            left[name] += count
+        return {name: left[name] for name in self.record.tracks}
 
     def by_group(self, table: pandas.DataFrame) -> pandas.DataFrame:
         """A table with a column of animals, which where ranges are by groups gets one of groups behind it."""
@@ -382,7 +390,8 @@ def home_range(
     by: makes a range of each group of an animal's fixes: of a 'year', a 'month' ('2024-05') or a 'season' of a year, by the
         clock of the fixes; of a column of the frame, or of the fixes; of values, one for each fix, or for each row of a frame (a
         Series goes by its index); or of what a function of the fixes answers. Seasons are those of meteorology and are named by
-        their months, '2024 Jun-Aug', and '2023-2024 Dec-Feb' for a December with the months behind it.
+        their months, '2024 Jun-Aug', and '2023-2024 Dec-Feb' for a December with the months behind it. Moments name groups as
+        their own clock shows them, and by days where all are midnights.
     program: the program; if left out, that in the environment as HOMERANGE, the package's own, that of the clone that the
         package is in, or homerange on PATH (README.md, Which program runs).
     jobs: how many processors are taken; if left out, all that this process may have.

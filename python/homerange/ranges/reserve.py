@@ -91,14 +91,21 @@ def turned_shapes(shapes: Shapes, own: Any, crs: Any, box: Bounds) -> Shapes:
     except ProjError:
         refuse(f"the CRS {own.name} of the reserve has no way to that of the ranges that pyproj knows", "crs")
     longest = LONGEST_DEGREES if own.is_geographic else LONGEST_METRES / own.axis_info[0].unit_conversion_factor
-    found = turned(shapes, way, longest)
+    found = turned(shapes, way, longest, own.is_geographic)
     if found is None:
         near = surroundings(box, way, own.is_geographic)
-        found = turned([shape.intersection(near) for shape in shapes], way, longest)
+        found = turned([shape.intersection(near) for shape in shapes], way, longest, own.is_geographic)
     return refuse(HELP_WIDE, "crs") if found is None else found
 
 
-def turned(shapes: Shapes, way: Any, longest: float) -> Shapes | None:
+def apart(one: Side, other: Side, are_degrees: bool) -> Side:
+    """How far coordinates lie apart; longitudes around the circle, on which -180 and 180 are one. Of one that is infinite it is none."""
+    with numpy.errstate(invalid="ignore"):
+        gaps: Side = numpy.abs((one - other + HALF_TURN) % (2 * HALF_TURN) - HALF_TURN if are_degrees else one - other)
+    return gaps
+
+
+def turned(shapes: Shapes, way: Any, longest: float, are_degrees: bool) -> Shapes | None:
     """Shapes in another system; None where it has no places for all of them."""
     from shapely.ops import transform
 
@@ -108,7 +115,7 @@ def turned(shapes: Shapes, way: Any, longest: float) -> Shapes | None:
         east, north = with_points(numpy.array([x, y], dtype="float64"), longest)
         there = way.transform(east, north)
         back = way.transform(*there, direction="INVERSE")
-        are_found = all(numpy.abs(one - other).max() <= MISSED * longest for one, other in zip(back, (east, north)))
+        are_found = all(apart(one, other, are_degrees).max() <= MISSED * longest for one, other in zip(back, (east, north)))
         are_sound.append(are_found and bool(numpy.hypot(*numpy.diff(there)).max(initial=0) <= TORN))
         return there[0], there[1]
 

@@ -25,9 +25,17 @@ PLACES = ("easting", "northing")
 # Usual titles of what says which fixes count, or where they are, by which columns that were added to fixes are judged too.
 JUDGED = {
     "lc", "class", "loc-class", "locationclass", "argos-loc-class", "argos-location-class", "argos-lc", "argos-class", "loc--quality",
-    "location-quality", "location-class", "outlier", "outliers", "is-outlier", "isoutlier", "valid", "is-valid", "isvalid",
-    "event-visible", "sensor-type", "sensor-type-id", "utm-zone", "zone", "zona", "huso", "fuso", "fuseau", "utmz", "utmzone",
+    "location-quality", "location-class", "sensor-type", "sensor-type-id", "utm-zone", "zone", "zona", "huso", "fuso", "fuseau", "utmz", "utmzone",
     "utm-zone-number", "zone-number", "zonenumber", "zone-letter", "zoneletter", "grid-zone", "epsg", "epsg-code", "srid", "crs"}
+# Words of titles that say so too, and words and titles beside which one of the first says nothing.
+WORDS_OF_MARKS = {
+    "outlier", "outliers", "outlying", "isoutlier", "isoutliers", "valid", "isvalid", "invalid", "isinvalid", "visible", "isvisible",
+    "invisible", "ausreisser", "ausreißer", "valide", "valido", "válido", "aberrant"}
+WORDS_OF_GRIDS = {
+    "zone", "zones", "zona", "zonas", "zonen", "huso", "fuso", "fuseau", "utm", "utmz", "utmzone", "zonenumber", "zoneletter", "mgrs",
+    "epsg", "srid", "crs", "srs"}
+WORDS_OF_SATELLITES = {"sat", "sats", "satellite", "satellites", "sv", "svs"}
+NO_MARKS = {"argos-valid-location-algorithm", "argos-valid-location-manual", "outlier-comments"}
 MARKS = {"use", "visible", "manually-marked-outlier", "algorithm-marked-outlier", "import-marked-outlier", "manually-marked-valid"}
 
 
@@ -107,12 +115,26 @@ def is_judged(title: str, titles: frozenset[str]) -> bool:
     """Whether a column of this title is one of marks, also of those that no table may have without use, or was added and says which
     fixes count, or where they are."""
     own = plain(title)
-    return own in MARKS or own in JUDGED and (title not in titles or re.search("outlier|valid|visible", own) is not None)
+    is_of_doubt = own in JUDGED or not words_of(title).isdisjoint(WORDS_OF_GRIDS)
+    return own in MARKS or may_be_mark(title) or is_of_doubt and title not in titles
 
 
 def says_which_count(title: str) -> bool:
     """Whether a column of this title says which fixes count, and not where they are, which the program tells by its cells."""
-    return plain(title) in MARKS | JUDGED and not re.search("zone|epsg|srid|crs", plain(title))
+    is_of_count = plain(title) in MARKS | JUDGED and words_of(title).isdisjoint(WORDS_OF_GRIDS)
+    return is_of_count or may_be_mark(title)
+
+
+def words_of(title: str) -> set[str]:
+    """The words of a title, in small letters: docs/TABLES.md, Titles."""
+    letters = "a-z\u00c0-\u1fff\u3000-\U0010ffff"  # small ones, and all that are none of ASCII
+    return {word.lower() for word in re.findall(f"[A-Z]*[{letters}]+|[A-Z]+|[0-9]+", title)}
+
+
+def may_be_mark(title: str) -> bool:
+    """Whether a word of a title says that a column may have marks."""
+    words = words_of(title)
+    return not words.isdisjoint(WORDS_OF_MARKS) and words.isdisjoint(WORDS_OF_SATELLITES) and plain(title) not in NO_MARKS
 
 
 def with_named_levels(frame: pandas.DataFrame) -> pandas.DataFrame:
@@ -202,6 +224,24 @@ def refuse_unread(fixes: pandas.DataFrame, reading: Reading, read: frozenset[str
     for title in map(str, with_named_levels(fixes).columns):
         if says_which_count(title) and title not in reading.titles and title not in read:
             refuse(f"{title!r} was added to the fixes, and is not read{goes_before(title, read)}", "columns")
+
+
+def refuse_unread_rows(fixes: pandas.DataFrame, reading: Reading) -> None:
+    """Refuses a row that was not read, of an animal that has more than were read of it, or of which none was: of others, as many were
+    changed."""
+    keys, read = keys_of(fixes), pandas.Series(keys_read(reading))
+    names = numpy.array(cells_of(fixes["animal"]), dtype=object)
+    more = {name for name, count in Counter(names.tolist()).items() if count > reading.counts.get(name, 0)}
+    if not more:
+        return
+    firsts = pandas.Series(keys[~pandas.Series(hashed(keys, names)).duplicated().to_numpy()])  # one of each animal
+    several, known = (own.value_counts().reindex(keys, fill_value=0).to_numpy() for own in (firsts, read))
+    odd = numpy.flatnonzero(pandas.Series(names).isin(more).to_numpy() & (several > known))
+    if len(odd):
+        at = int(odd[0])
+        refuse(f"{row_named(fixes.index, at)}: this fix of {names[at]!r} was not read with the others: bind tables that read_fixes has "
+               "read, by pandas.concat; or if its animal has a new name, or all are alike, read pandas.DataFrame(fixes) as a new table",
+               "option", at + 1)
 
 
 def goes_before(title: str, read: Iterable[str]) -> str:

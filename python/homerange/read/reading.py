@@ -23,10 +23,12 @@ from ..units import UNITS, zone_text
 from ..zones import crs_of, text_of_crs
 from .call import as_arguments, split_table
 from .cells import cells_of
-from .changes import PLACES, checksum_of_rows, judged_rows, left_since, own_titles, refuse_changed, refuse_unread, seen, with_named_levels
+from .changes import (
+    PLACES, checksum_of_rows, judged_rows, left_since, own_titles, refuse_changed, refuse_unread, refuse_unread_rows, seen,
+    with_named_levels)
 from .fixes import Fixes, Reading, clock_of, is_known, is_of_classes, reading_of
 from .refusals import COLUMNS, check_cells, columns_read, refuse_text
-from .systems import are_degrees, crs_named, options_of, refuse_zone, scale_said
+from .systems import are_degrees, crs_named, options_of, refuse_beside_zone, scale_said
 from .text import (
     NAME, Text, frame_given, has_times, in_own_words, plain, text_of_frame, with_clock_of, with_time_named, write_text, zones_in)
 from .tracks import NAMED, Whole, left_out, own_names, read_tracks, rows_of
@@ -34,6 +36,7 @@ from .widths import narrow_places, steps_said
 from .words import words_of_options
 
 SINCE_1970 = (10 ** 8, 9_223_372_036)  # seconds that have a calendar: from 1973 to where pandas' times end
+DONE = (": left out", ": sorted by time")  # how lines end that say what was done to rows, and was not when these were read
 # How lines begin that say what was taken, and nothing that was left out or changed.
 TAKEN = ("columns: ", "UTM coordinates are", "coordinates are those", "longitude and latitude are", "days and hours are",
          "ranges are by group", "not read: ", "times are read as ", "points of ")
@@ -139,13 +142,14 @@ def read_again(fixes: Fixes, options: Mapping[str, Any], folder: Path, program: 
         refuse_changed(fixes, before)
         return ReadTable(fixes)
     refuse_system(before, wishes)
+    refuse_unread_rows(fixes, before)
     found = read_text(text_again(fixes, before, wishes), folder, find_split_program(program), has_columns)
     own = reading_of(found.fixes)
     refuse_unread(fixes, before, own.sources)
     refuse_changed(fixes, before, own.sources)
     further = fixes.loc[:, [title not in OWN for title in fixes.columns]]
     lost = [] if found.rows is None else lost_said(further, before.sources)
-    new = [note for note in (*own.notes, *lost) if note not in before.notes and not note.startswith(TAKEN)]
+    new = [note for note in (*own.notes, *lost) if (note not in before.notes or note.endswith(DONE)) and not note.startswith(TAKEN)]
     since = left_since(fixes, before)
     own = replace(own, notes=(*before.notes, *new), left=since.counts + Counter(own.left), is_again=True, titles=before.titles,
                   sources=before.sources, unknown=since.unknown)
@@ -288,7 +292,7 @@ def fixes_of(whole: Whole, record: Record, folder: Path, tz: str | None, crs: An
              in_words: Callable[[str], str] = str) -> Fixes:
     """The fixes of tracks with their record, in metres and by the clock of tz."""
     if crs is not None and record.zone is not None and options_of(crs, None).get("zone") != record.zone:
-        refuse_zone(record.zone, crs)
+        refuse_beside_zone(record.zone, record.said, crs)
     own, scale, clock = own_names(record), UNITS[record.unit].per_metre, tz or "UTC"
     names = [own.get(name, name) for name in whole.names]
     east, north = (numbers / scale - added for numbers, added in zip((whole.easting, whole.northing), record.shift))

@@ -28,6 +28,7 @@ HELP_SWAPPED = ("are x and y of the points the other way? frame.set_geometry(geo
                 "crs=frame.crs)) turns them")
 HELP_METRES = ("if they are metres, give the points the reference system that they have, as by frame.set_crs(32633, allow_override=True); a "
                "word for what is missing is named by na")
+NO_DATES = {clock.date(1899, 12, 30), clock.date(1899, 12, 31)}  # on which spreadsheets have clocks
 TIMES = (clock.date, clock.time, clock.timedelta, pandas.Period, numpy.datetime64, numpy.timedelta64)  # and lengths of them
 COLUMNS, UNREAD, NO_ANIMAL = "columns: ", "not read: ", "no column has a usual title for the animal"  # how lines begin
 
@@ -94,9 +95,12 @@ def with_moments_alone(said: str, text: Text) -> str:
     titles = both.groups() if both else named if len(named) > 1 else ()
     own = [column for column in text.columns if one_line(column.title) in titles]
     moments = [column for column in own if has_times(column.values)]
+    clocks = next((column.title for column in moments if not are_midnights(column) and has_no_date(column)), None)
     whole = [column.title for column in moments if not are_midnights(column)]
     days = [column for column in moments if None not in zones_in(column.values)]
-    if len(whole) == 1:
+    if clocks is not None:
+        helps = f"{one_line(clocks)} has clocks on days of 1899, as spreadsheets have them: make times of the day of it, as by .dt.time"
+    elif len(whole) == 1:
         helps = f"{one_line(whole[0])} has moments: name it alone, as by --time {whole[0]!r}"
     elif days and not whole:
         helps = f"{one_line(days[0].title)} has moments: make days of it, as by .dt.date{with_zone(days[0], text)}"
@@ -117,6 +121,11 @@ def with_zone(column: Column, text: Text) -> str:
 def are_midnights(column: Column) -> bool:
     """Whether all moments of a column are midnights, of whatever zone."""
     return all(time.time() == clock.time() for time in column.values.dropna().astype(object))
+
+
+def has_no_date(column: Column) -> bool:
+    """Whether all moments of a column are of the days on which spreadsheets have clocks."""
+    return {*column.values.dropna().dt.date} <= NO_DATES
 
 
 def of_frame(said: str) -> str:

@@ -5,7 +5,7 @@ from __future__ import annotations
 
 import re
 from math import isfinite
-from typing import TYPE_CHECKING, Any, Mapping, NoReturn
+from typing import TYPE_CHECKING, Any, Iterable, Mapping, NoReturn
 
 import numpy
 import pandas
@@ -21,6 +21,7 @@ if TYPE_CHECKING:
 DEGREES = "EPSG:4326"  # longitude and latitude as the program takes them
 HELP = "project it first, as by frame.to_crs(frame.estimate_utm_crs())"
 HELP_NAMED = "make points of its columns and project these first, as by geopandas.points_from_xy(x, y, crs=..) and to_crs"
+PROJECTED = "longitude and latitude are projected into zone "  # how the program begins what it says of degrees that it projected
 HELP_LOCAL = "make metres of its coordinates, which need no CRS"
 METRE = {"metre", "meter", "metres", "meters", "m"}  # in small letters
 RADIUS = (6_350_000, 6_400_000)  # metres between which that of a body is one of the Earth
@@ -114,6 +115,14 @@ def refuse_zone(zone: Any, crs: Any) -> None:
     own = getattr(crs, "utm_zone", None)
     refuse(f"the coordinates are of the zone {zone}, and the CRS {getattr(crs, 'name', crs)} is "
            f"{'that of ' + own if own else 'none of UTM'}: give one of the two", "zone")
+
+
+def refuse_beside_zone(zone: str, said: Iterable[str], crs: Any) -> None:
+    """Refuses a reference system beside the zone of coordinates that the program read, which said this."""
+    if any(line.startswith(PROJECTED) for line in said):
+        refuse(f"longitude and latitude are read, which are projected into the zone {zone}, and crs is the reference system of easting and "
+               "northing: leave crs out, or name these by easting and northing", "zone")
+    refuse_zone(zone, crs)
 
 
 def check_points(points: geopandas.GeoSeries, labels: pandas.Index) -> None:

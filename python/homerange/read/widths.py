@@ -62,7 +62,9 @@ def missing_as_written(na: Any, columns: Sequence[Column]) -> Any:
 
 
 def is_number(word: Any) -> bool:
-    return isinstance(word, Real) and not isinstance(word, bool) and bool(abs(word) <= sys.float_info.max)
+    own: Any = word.item() if isinstance(word, numpy.generic) else word  # numpy would have the greatest of its own width
+    is_real = isinstance(own, Real) and not isinstance(own, bool)
+    return is_real and bool(abs(own) <= sys.float_info.max)
 
 
 def cells_of_number(number: Any, columns: Iterable[Column]) -> list[Any]:

@@ -22,7 +22,7 @@ from ..record import read_record, record_in
 from ..report import Report
 from ..units import zone_of_time, zone_text
 from .evidence import ABOUT, REPORT, TRACKS, Wish, copy_tracks, make_report, new_folder, used_tracks
-from .page import rings_given, words_typed, write_rings
+from .page import refuse_name_alone, rings_given, words_typed, write_rings
 from .results import BOUNDARY, words_beside, write_results
 
 CHOSEN = "the fixes are not as they were read: what was left out before is neither in the folder nor on its page"
@@ -153,6 +153,7 @@ def words_of_page(ranges: HomeRanges, *, reserve: Any = None, reserve_name: str 
                   **typed: Any) -> tuple[Words, Any]:
     """What the arguments of a page come to, and its boundary."""
     words = words_typed(reserve_name=reserve_name, **typed)
+    refuse_name_alone(reserve, reserve_name)
     zone = ranges.tz if tz is None else zone_text(tz)
     zone_of_time(zone)
     return words._replace(clock=zone, boundary=None if reserve is None else words.boundary or "boundary"), reserve

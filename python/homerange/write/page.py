@@ -238,6 +238,12 @@ def words_typed(title: str | None = None, study: str | None = None, species: str
                  day=f"{made:%Y-%m-%d}" if made else None)
 
 
+def refuse_name_alone(reserve: Any, name: str | None) -> None:
+    """Refuses what a reserve is called where there is none."""
+    if reserve is None and name:
+        refuse("reserve_name is the name of no reserve: give its shape as reserve")
+
+
 def rings_given(ranges: HomeRanges, reserve: Any) -> list[list[Point]] | None:
     """The rings of a boundary that was given, in the reference system of the ranges."""
     return None if reserve is None else rings_of(boundary_of(reserve, ranges.crs, ranges.box))
@@ -259,6 +265,7 @@ def write_page(
     check_ranges(ranges)
     check_whole(ranges, "a page")
     words = words_typed(title, study, species, by, reserve_name, made)
+    refuse_name_alone(reserve, reserve_name)
     file, zone = check_place(path_of(path, "path")), ranges.tz if tz is None else zone_text(tz)
     head = Head(words, rings_given(ranges, reserve), zone, made or datetime.now(zone_of_time(zone)).date(), *identity(ranges))
     with files_as_said():

@@ -97,6 +97,16 @@ test_that("a title is that of the column of the frame, and none of a file", {
   expect_identical(names(quietly(home_range(path, 100, by = "animal"))), c("x x", "y y"))
 })
 
+test_that("moments are named by their own clock, and days without it", {
+  skip_without_program()
+  times <- as.POSIXct("2024-04-29 21:00", tz = "Europe/Vienna") + 3600 * 5 * 0:11
+  fixes <- read_frame_quietly(data.frame(animal = "a", time = times, easting = 1:12, northing = (1:12)^2))
+  days <- as.POSIXct(format(fixes$time, "%Y-%m-%d"), tz = "Europe/Vienna")
+  expect_identical(names(quietly(home_range(fixes, by = days))), paste("a", c("2024-04-29", "2024-04-30", "2024-05-01", "2024-05-02")))
+  halves <- .POSIXct(43200 * (as.numeric(fixes$time) %/% 43200), tz = "Europe/Vienna")
+  expect_identical(names(quietly(home_range(fixes, by = halves)))[1:2], paste("a", c("2024-04-29T14:00:00+02:00", "2024-04-30T02:00:00+02:00")))
+})
+
 test_that("what is no group is refused", {
   skip_without_program()
   table <- cbind(frame(), sex = "f", year = 1)
@@ -116,6 +126,9 @@ test_that("what is no group is refused", {
   refused(replace(rep("a", 80), 5, NA), "row 5: by has no group: leave fixes without a group out")
   seconds <- walk("a", 9, 1)
   expect_error(quietly(home_range(seconds, by = "month")), "by = \"month\": seconds have no calendar: read a table with a column of date-times in place of second",
+               class = "homerange_option_error")
+  early <- data.frame(animal = "a", time = as.POSIXct(c("2024-05-01", "1970-01-01", "2024-05-02"), tz = "UTC"), easting = 1:3, northing = c(1, 2, 1))
+  expect_error(quietly(home_range(early, by = "month")), "a fix of 'a', at 1970-01-01 00:00:00 UTC, is not of the years 1973 to 2286",
                class = "homerange_option_error")
   both <- rbind(walk("a", 6, 1), walk("a 1", 6, 2))
   expect_error(quietly(home_range(both, by = rep(c("1 2", "2"), each = 6))), "'a' and 'a 1' both have a range named 'a 1 2': rename one",

@@ -110,5 +110,9 @@ test_that("a boundary is on the map", {
 test_that("what cannot be right is refused", {
   expect_error(write_page(1, "page.html"), "has no ranges: home_range makes them", class = "homerange_option_error")
   expect_error(write_page(example_ranges(), ""), "path = \"\" is no path", class = "homerange_option_error")
-  expect_error(write_page(example_ranges(), "page.html", tz = "Mars"), "no time zone", class = "homerange_option_error")
+  for (zone in c("Mars", "localtime", "posixrules", "Factory", "posix/Europe/Paris")) {
+    expect_error(write_page(example_ranges(), "page.html", tz = zone), "no time zone", class = "homerange_option_error")
+  }
+  expect_error(write_page(example_ranges(), "page.html", reserve_name = "Park"), "reserve_name is the name of no reserve",
+               class = "homerange_option_error")
 })

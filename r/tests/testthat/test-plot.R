@@ -189,6 +189,8 @@ test_that("what cannot be drawn is refused", {
   expect_error(plot(report(), share = "yes"), class = "homerange_option_error")
   expect_error(plot(report(), pch = 3), "there is no argument pch", class = "homerange_option_error")
   expect_error(drawn(function() plot(report(), levels = 95)), "below 100 per cent need the fixes", class = "homerange_option_error")
+  expect_error(plot(report(), "curve", levels = 50), "levels is of the map of ranges, and a curve is that of all fixes", class = "homerange_option_error")
+  expect_error(plot(report(), "ranges", share = TRUE), "share is of the curve of area: leave it out", class = "homerange_option_error")
 })
 
 test_that("what is drawn over ranges has a shape and a reference system, and colours may be a factor", {

@@ -42,6 +42,18 @@ test_that("what is no reserve is refused", {
   expect_error(homerange_share(ranges, sf::st_point(c(1, 1))), "has no area", class = "homerange_option_error")
 })
 
+test_that("a bare shape is in the system of the ranges, and not in degrees", {
+  skip_without_program()
+  skip_if_not_installed("sf")
+  ranges <- quietly(home_range(deer))
+  whole <- sf::st_as_sfc(sf::st_bbox(sf::st_as_sf(ranges)))
+  expect_equal(homerange_share(ranges, whole[[1]])$share, rep(1, length(ranges)))
+  degrees <- sf::st_transform(whole, 4326)
+  expect_error(homerange_share(ranges, degrees[[1]]), "lies as longitude and latitude do: make sf::st_sfc(reserve, crs = 4326) of it",
+               fixed = TRUE, class = "homerange_degrees_error")
+  expect_equal(homerange_share(ranges, sf::st_sfc(degrees[[1]], crs = 4326))$share, rep(1, length(ranges)), tolerance = 0.01)
+})
+
 wide_box <- function(west, south, east, north) {
   sf::st_polygon(list(cbind(c(west, east, east, west, west), c(south, south, north, north, south))))
 }

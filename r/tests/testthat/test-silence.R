@@ -139,6 +139,43 @@ test_that("a form of times is for texts", {
   expect_identical(quietly(read_fixes(table, time = c("day", "clock"), time_format = "%Y-%m-%d %H:%M:%S"))$time, moments)
 })
 
+test_that("clocks that are parts of hours and days are those of whole seconds", {
+  skip_without_split()
+  seconds <- 60 * 0:1439
+  table <- data.frame(animal = "a", day = as.Date("2024-05-01"), easting = 5e5 + seconds %% 977, northing = 5e6 + seconds %% 1013)
+  wanted <- as.POSIXct("2024-05-01", tz = "UTC") + seconds
+  for (unit in c("hours", "days", "mins")) {
+    table$clock <- as.difftime(seconds / c(hours = 3600, days = 86400, mins = 60)[[unit]], units = unit)
+    expect_identical(quietly(read_fixes(table, time = c("day", "clock")))$time, wanted)
+    if (requireNamespace("hms", quietly = TRUE)) {
+      table$clock <- hms::hms(seconds / 86400 * 86400)
+      expect_identical(quietly(read_fixes(table, time = c("day", "clock")))$time, wanted)
+    }
+  }
+})
+
+test_that("lengths of time beside days are made clocks", {
+  skip_without_split()
+  table <- table_of_four()
+  table$second <- NULL
+  table$day <- as.Date("2024-05-01")
+  both <- function(clock) read_fixes(cbind(table, clock = clock), time = c("day", "clock"))
+  clocks <- function(seconds) {
+    if (!requireNamespace("hms", quietly = TRUE)) return(invisible())
+    expect_identical(quietly(both(hms::as_hms(seconds)))$time, as.POSIXct("2024-05-01", tz = "UTC") + 3600 * 0:3)
+  }
+  if (requireNamespace("lubridate", quietly = TRUE)) {
+    seconds <- "hms::as_hms(as.numeric(x, units = \"secs\")) makes clocks of it, which stand beside days"
+    refused(both(lubridate::dhours(0:3)), seconds, "time")
+    clocks(as.numeric(lubridate::hours(0:3), units = "secs"))
+  }
+  if (requireNamespace("units", quietly = TRUE)) {
+    hours <- units::set_units(0:3, "h")
+    refused(both(hours), "hms::as_hms(units::drop_units(units::set_units(x, \"s\"))) makes clocks of it, which stand beside days", "time")
+    clocks(units::drop_units(units::set_units(hours, "s")))
+  }
+})
+
 test_that("units that are no lengths say what makes of them what is read", {
   skip_without_split()
   skip_if_not_installed("units")

@@ -13,7 +13,9 @@ from cases import finish
 UTM = "individual-local-identifier,timestamp,utm-easting,utm-northing,utm-zone"
 NO_COORDINATES = ("there are no columns of usual titles for easting and northing, or longitude and latitude: name them, as by --easting X and "
                   "--northing Y, or --lon X and --lat Y; the table has ")
-UTC = ", and without --tz times are those of UTC: name their zone, as by --tz "
+OF_NO_ZONE = ", and without --tz times are those of UTC"
+UTC = f"{OF_NO_ZONE}: name their zone, as by --tz "
+OFFSET = ": name a zone of that offset, by --tz"
 METRES = ", and coordinates are in metres: write metres, and rename the column"
 DEGREES = ", and longitude and latitude are in degrees: write degrees with decimals, and rename the column"
 NO_MARKS = " (a fix is not used where 'visible' is false, or 'manually-marked-outlier' is true)"
@@ -132,7 +134,33 @@ REFUSED = [
     (["--lon", "lon rad", "--lat", "lat"], "id,date,lon rad,lat", f"column 3 'lon rad' says rad{DEGREES}"),
     (["--lon", "lon", "--lat", "lat_E7"], "id,date,lon,lat_E7", f"column 4 'lat_E7' says E7{DEGREES}"),
     (["--time", "time (UTC+2)"], "id,time (UTC+2),lon,lat", f"column 2 'time (UTC+2)' says UTC+2{UTC}Etc/GMT-2"),
-    (["--time", "date_gmt-05:30"], "id,date_gmt-05:30,lon,lat", f"column 2 'date_gmt-05:30' says gmt-05:30{UTC}Europe/Ljubljana"),
+    (["--time", "date_gmt-05:30"], "id,date_gmt-05:30,lon,lat", f"column 2 'date_gmt-05:30' says gmt-05:30{OF_NO_ZONE}{OFFSET}"),
+    (["--easting", "x (decimeter)", "--northing", "y"], "id,date,x (decimeter),y", f"column 3 'x (decimeter)' says decimeter{METRES}"),
+    *((["--easting", f"x ({word})", "--northing", "y"], f"id,date,x ({word}),y", f"column 3 'x ({word})' says {word}{METRES}") for word in (
+        "ftus inches hm dam kilomètres kilómetros Dezimeter millimetre Hectometres kilometers nmi").split()),
+    (["--easting", "eastingDecimeters", "--northing", "y"], "id,date,eastingDecimeters,y", f"column 3 'eastingDecimeters' says Decimeters{METRES}"),
+    (["--easting", "x..decimetres.", "--northing", "y"], "id,date,x..decimetres.,y", f"column 3 'x..decimetres.' says decimetres{METRES}"),
+    (["--easting", "x", "--northing", "y [smoots]"], "id,date,x,y [smoots]", f"column 4 'y [smoots]' says smoots{METRES}"),
+    (["--lon", "lon", "--lat", "lat (grads)"], "id,date,lon,lat (grads)", f"column 4 'lat (grads)' says grads{DEGREES}"),
+    (["--lon", "lonArcmin", "--lat", "lat"], "id,date,lonArcmin,lat", f"column 3 'lonArcmin' says Arcmin{DEGREES}"),
+    (["--lon", "lonE7", "--lat", "latE7"], "id,date,lonE7,latE7", f"column 3 'lonE7' says E7{DEGREES}"),
+    (["--lon", "lon (1e-7)", "--lat", "lat"], "id,date,lon (1e-7),lat", f"column 3 'lon (1e-7)' says e-7{DEGREES}"),
+    (["--lon", "lon (ms)", "--lat", "lat"], "id,date,lon (ms),lat", f"column 3 'lon (ms)' says ms{DEGREES}"),
+    *((["--easting", f"x {word}", "--northing", "y"], f"id,date,x {word},y", "there is no record below the titles") for word in (
+        "(m)", "[metres]", "(UTM)", "(UTM 33N)", "{EPSG:2154}", "(Mètres)", "(raw)", "perimeter", "milestone", "()", "(°)")),
+    *((["--lon", f"lon {word}", "--lat", "lat"], f"id,date,lon {word},lat", "there is no record below the titles") for word in (
+        "(deg)", "[°]", "(WGS84)", "(decimal degrees)", "(E)", "graduate", "E12", "e_7")),
+    ([], "id,date,easting,northing,Easting,Northing", "column 3 'easting' and column 5 'Easting' both fit the easting: name one, as by --easting easting"),
+    ([], "id,date,x,y,X,Y", "there is no record below the titles"),
+    ([], "id,date,easting,northing,Easting", "there is no record below the titles"),
+    ([], "id,date,longitude,latitude,Longitude,Latitude", "column 3 'longitude' and column 5 'Longitude' both fit the longitude: name one, as by --lon longitude"),
+    (["--lon", "longitude", "--lat", "latitude"], "id,date,longitude,latitude,Longitude,Latitude", "there is no record below the titles"),
+    ([], "id,date,x,y,X", "there is no record below the titles"),
+    *(([], f"id,date,x,y,{title}", f"column 5 '{title}' may have marks, but is not read: rename or remove it{NO_MARKS}") for title in (
+        "Outlier (y/n)", "outlier?", "outlier_flag", "flagOutlier", "visible (Movebank)", "isInvalid", "is.valid.fix", "outlier1", "Ausreißer")),
+    *(([], f"id,date,x,y,{title}", "there is no record below the titles") for title in (
+        "argos:valid-location-algorithm", "outlier comments", "validity", "visibility", "invalidated", "visible satellites", "satsVisible")),
+    ([], "id,date,x,y,use,outlier_flag", "there is no record below the titles"),
     (["--time", "UTC -11"], "id,UTC -11,lon,lat", f"column 2 'UTC -11' says UTC -11{UTC}Etc/GMT+11"),
     (["--time", "day,Local.time"], "id,day,Local.time,lon,lat", f"column 3 'Local.time' says Local{UTC}Europe/Ljubljana"),
     (["--from", "vectronic", "--time", "LMT_Date,LMT_Time", "--time-format", "%d.%m.%Y %H:%M:%S"], "AnimalID,CollarID,LMT_Date,LMT_Time,Longitude,Latitude",
@@ -174,11 +202,26 @@ CLOCKS = [
     ("time +02:00", "+02:00", "Etc/GMT-2"),
     ("time +10", "+10", "Etc/GMT-10"),
     ("time (+2h)", "+2", "Etc/GMT-2"),
-    ("time (GMT + 2)", "GMT + 2", EXAMPLE),
-    ("time_utc_plus_2", "utc_plus_2", EXAMPLE),
-    ("UTC minus 10", "UTC minus 10", EXAMPLE),
-    ("time +5.5", "+5.5", EXAMPLE),
-    ("time (UTC+5.75)", "UTC+5.75", EXAMPLE),
+    ("time (GMT + 2)", "GMT + 2", "Etc/GMT-2"),
+    ("time_utc_plus_2", "utc_plus_2", "Etc/GMT-2"),
+    ("UTC plus 2", "UTC plus 2", "Etc/GMT-2"),
+    ("UTC + 2", "UTC + 2", "Etc/GMT-2"),
+    ("utc_minus_3", "utc_minus_3", "Etc/GMT+3"),
+    ("UTC minus 10", "UTC minus 10", "Etc/GMT+10"),
+    ("time +5.5", "+5.5", None),
+    ("time (UTC+5.75)", "UTC+5.75", None),
+    ("time (UTC+5:30)", "UTC+5:30", None),
+    ("time UTC plus 5.30", "UTC plus 5.30", None),
+    ("time..UTC.2.", "UTC.2", None),
+    ("time..GMT.03.00.", "GMT.03.00", None),
+    ("time_utc_5", "utc_5", None),
+    ("LocalTimestamp", "Local", EXAMPLE),
+    ("timeLocal", "Local", EXAMPLE),
+    ("Lokalzeit", "Lokalzeit", EXAMPLE),
+    ("heure locale", "locale", EXAMPLE),
+    ("ora.locale", "locale", EXAMPLE),
+    ("time (LT)", "LT", EXAMPLE),
+    ("timeCET", "CET", EXAMPLE),
     ("time [-5]", "-5", "Etc/GMT+5"),
     ("time -05:00", "-05:00", "Etc/GMT+5"),
     ("time (-0300)", "-0300", "Etc/GMT+3"),
@@ -189,16 +232,17 @@ CLOCKS = [
     ("time (UTC+02:00)", "UTC+02:00", "Etc/GMT-2"),
     ("GMT-0800", "GMT-0800", "Etc/GMT+8"),
     ("CET (+01)", "+01", "Etc/GMT-1"),
-    ("time (+14)", "+14", EXAMPLE),
-    ("time +9:30", "+9:30", EXAMPLE),
+    ("time (+14)", "+14", "Etc/GMT-14"),
+    ("time (-13)", "-13", None),
+    ("time +9:30", "+9:30", None),
     ("local +0530", "local", EXAMPLE),
-    ("time [-03:30]", "-03:30", EXAMPLE),
+    ("time [-03:30]", "-03:30", None),
 ]
 # Titles of times that say the clock of UTC, and by which word.
 OF_UTC = [
     ("time (Etc/UTC)", "Etc/UTC"), ("Etc/GMT", "Etc/GMT"), ("time etc/gmt+0", "etc/gmt+0"), ("time [Etc/Zulu]", "Etc/Zulu"), ("time (+0)", "+0"),
     ("time +00:00", "+00:00"), ("time -00:00", "-00:00"), ("time (-0)", "-0"), ("time {+0000}", "+0000"), ("UTC (+0)", "UTC"), ("UTC+0", "UTC"),
-    ("time (Z)", "Z"), ("time UTC - 2024", "UTC"), ("utc plus", "utc"),
+    ("time (Z)", "Z"), ("time UTC - 2024", "UTC"), ("utc plus", "utc"), ("timeUTC", "UTC"), ("time_utc_24", "utc"), ("time..UTC.0.", "UTC"),
 ]
 # Titles of times that say no clock.
 NO_CLOCKS = [
@@ -211,27 +255,31 @@ NO_CLOCKS = [
 OTHER_CLOCKS = [
     ("time (UTC+2)", "UTC+2", "Etc/GMT+2", "Etc/GMT-2"), ("time (+3)", "+3", "UTC", "Etc/GMT-3"), ("time -05:00", "-05:00", "Etc/GMT+6", "Etc/GMT+5"),
     ("time (Europe/Vienna)", "Europe/Vienna", "America/New_York", "Europe/Vienna"), ("time (CET)", "CET", "Etc/UTC", EXAMPLE),
-    ("time (Asia/Tokyo)", "Asia/Tokyo", "UTC", "Asia/Tokyo"), ("time +5.5", "+5.5", "GMT", EXAMPLE),
+    ("time (Asia/Tokyo)", "Asia/Tokyo", "UTC", "Asia/Tokyo"), ("time +5.5", "+5.5", "GMT", None), ("utc_plus_2", "utc_plus_2", "Etc/GMT+5", "Etc/GMT-2"),
+    ("time (UTC + 2)", "UTC + 2", "Etc/GMT+5", "Etc/GMT-2"), ("time (UTC + 2)", "UTC + 2", "Etc/GMT+2", "Etc/GMT-2"),
+    ("time..UTC.2.", "UTC.2", "Etc/GMT-3", None), ("time (UTC+5:30)", "UTC+5:30", "Etc/GMT-5", None), ("time (CEST)", "CEST", "UTC", EXAMPLE),
 ]
 # Options and titles of times that are taken, with or without them.
 TAKEN = [
     *(([], title) for title in NO_CLOCKS),
     *((options, title) for title, _ in OF_UTC for options in ([], ["--tz", "UTC"], ["--tz", "Etc/GMT"])),
-    *((["--tz", zone if "/" in word else "Africa/Nairobi"], title) for title, word, zone in CLOCKS if word != "europe/vienna"),
-    (["--tz", "Etc/GMT-2"], "time (UTC+2)"), (["--tz", "UTC"], "local time"), (["--tz", "Etc/GMT+11"], "time {Etc/GMT+11}"),
+    *((["--tz", zone if "/" in word else "Africa/Nairobi"], title) for title, word, zone in CLOCKS if zone and word != "europe/vienna"),
+    *((["--tz", "Africa/Nairobi"], title) for title, _, zone in CLOCKS if zone is None),
+    (["--tz", "Etc/GMT-2"], "time (UTC+2)"), (["--tz", "UTC"], "local time"), (["--tz", "UTC"], "heure locale"), (["--tz", "Etc/GMT-2"], "utc_plus_2"), (["--tz", "Etc/GMT+2"], "time..UTC.2."),
+    (["--tz", "Etc/GMT-2"], "time..UTC.2."), (["--tz", "Etc/GMT+11"], "time {Etc/GMT+11}"),
 ]
 
 
 def of_clocks():
     """The refusals of titles that say a clock, and the line that is said of a table without records where its titles are taken."""
     for title, word, zone in CLOCKS:
-        yield ["--time", title], title, f"column 2 '{title}' says {word}{UTC}{zone}"
+        yield ["--time", title], title, f"column 2 '{title}' says {word}{UTC + zone if zone else OF_NO_ZONE + OFFSET}"
     for title, word in OF_UTC:
         yield (["--time", title, "--tz", "Africa/Nairobi"], title,
                f"column 2 '{title}' says {word}, and --tz is Africa/Nairobi: leave --tz out, or rename the column")
     for title, word, zone, own in OTHER_CLOCKS:
         yield (["--time", title, "--tz", zone], title,
-               f"column 2 '{title}' says {word}, and --tz is {zone}: name its own zone, as by --tz {own}, or rename the column")
+               f"column 2 '{title}' says {word}, and --tz is {zone}{f': name its own zone, as by --tz {own}' if own else OFFSET}, or rename the column")
     for options, title in TAKEN:
         yield ["--time", title, *options], title, "there is no record below the titles"
 
