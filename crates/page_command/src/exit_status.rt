@@ -1,8 +1,10 @@
 // From the words of the command line to the status with which the program ends.
 
+use crate::clock::clock_of;
 use crate::make::make;
 use crate::stop::{Stop, refused_words, tell};
 use page_words::{PageWords, WordFault, read_words};
+use split_clock::Clock;
 use std::alloc::{AllocError, Global};
 use std::env::Env;
 use std::io::{ErrorKind, Write};
@@ -37,14 +39,26 @@ fn command_words<R: Env + AllocGlobal>(rt: &R) -> Result<Vec<String>, Stop> {
     }
 }
 
-// Does what the words ask for.
-fn done<R: Files + AllocGlobal + Clone + Drop, W: Write>(
+// The clock of the dates of a page; that of UTC where none is made.
+fn clock_in<R: Files + AllocGlobal>(
     rt: &R,
     read: &Result<PageWords<'_>, WordFault>,
+) -> Result<Clock, Stop> {
+    match read {
+        Ok(words) => clock_of(rt, words.clock),
+        Err(_fault) => Ok(Clock::utc()),
+    }
+}
+
+// Does what the words ask for, with dates by a clock.
+fn done<'a, R: Files + AllocGlobal + Clone + Drop, W: Write>(
+    rt: &R,
+    read: &'a Result<PageWords<'a>, WordFault>,
+    clock: &'a Clock,
     out: &mut W,
 ) -> Result<(), Stop> {
     match read {
-        Ok(words) => make(rt, words),
+        Ok(words) => make(rt, words, clock),
         Err(WordFault::Help(text) | WordFault::Version(text)) => reply(rt.alloc(), text, out),
         Err(fault) => Err(refused_words(rt.alloc(), fault)),
     }
@@ -56,7 +70,9 @@ fn obey<R: Files + Env + AllocGlobal + Clone + Drop, W: Write>(
     out: &mut W,
 ) -> Result<(), Stop> {
     let words = command_words(rt)?;
-    done(rt, &read_words(rt.alloc(), &words), out)
+    let read = read_words(rt.alloc(), &words);
+    let clock = clock_in(rt, &read)?;
+    done(rt, &read, &clock, out)
 }
 
 /// Does what the words of the command line ask for, and gives the status with which the program ends: 0 where the tables and the page,

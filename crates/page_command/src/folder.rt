@@ -4,9 +4,10 @@
 use crate::stop::{Stop, unread};
 use page_files::Track;
 use std::alloc::Global;
-use std::fs;
+use std::fs::DirEntry;
 use std::io::ErrorKind;
 use std::rt::Files;
+use std::{fs, io};
 
 // The end of the names of files of tracks.
 const TRACK: &str = ".csv";
@@ -62,23 +63,48 @@ fn bytes_of<R: Files + AllocGlobal>(rt: &R, path: &str) -> Result<Vec<u8>, Stop>
     }
 }
 
-// Adds the track of an entry of the folder of tracks, if it is a file of a track.
-fn push_track<R: Files + AllocGlobal>(
+// The name of an entry of a folder.
+fn name_of<R: Files + AllocGlobal + Drop>(
     rt: &R,
-    tracks: &mut Vec<Track>,
-    path: &str,
-    name: &str,
-) -> Result<(), Stop> {
-    if !name.ends_with(TRACK) {
-        return Ok(());
+    entry: io::Result<DirEntry<R>>,
+) -> io::Result<String> {
+    let entry = entry?;
+    Ok(String::from_str(rt.alloc(), entry.file_name())?)
+}
+
+// The names of the files in a folder.
+fn names_in<R: Files + AllocGlobal + Clone + Drop>(rt: &R, path: &str) -> io::Result<Vec<String>> {
+    let mut names = Vec::new(rt.alloc());
+    let entries = fs::read_dir(rt, path)?;
+    for entry in entries {
+        let name = name_of(rt, entry)?;
+        names.push(name)?;
     }
+    Ok(names)
+}
+
+// The track in a file of this name.
+fn track_in<R: Files + AllocGlobal>(rt: &R, path: &str, name: &str) -> Result<Track, Stop> {
     let path = format!(in rt.alloc(); "{path}/{name}")?;
-    let track = Track {
+    Ok(Track {
         file: String::from_str(rt.alloc(), name)?,
         bytes: bytes_of(rt, &path)?,
-    };
-    tracks.push(track)?;
-    Ok(())
+    })
+}
+
+// The tracks in the files of these names that are files of tracks.
+fn tracks_of<R: Files + AllocGlobal>(
+    rt: &R,
+    path: &str,
+    names: &[String],
+) -> Result<Vec<Track>, Stop> {
+    let mut tracks = Vec::new(rt.alloc());
+    for name in names {
+        if name.ends_with(TRACK) {
+            tracks.push(track_in(rt, path, name)?)?;
+        }
+    }
+    Ok(tracks)
 }
 
 // The tracks of a folder, if it is there.
@@ -86,20 +112,11 @@ fn tracks_in<R: Files + AllocGlobal + Clone + Drop>(
     rt: &R,
     path: &str,
 ) -> Result<Option<Vec<Track>>, Stop> {
-    let alloc = rt.alloc();
-    let mut tracks = Vec::new(alloc);
-    let entries = match fs::read_dir(rt, path) {
-        Ok(entries) => entries,
-        Err(error) if error.kind() == ErrorKind::NotFound => return Ok(None),
-        Err(error) => return Err(unread(alloc, path, &error)),
-    };
-    for entry in entries {
-        match entry {
-            Ok(entry) => push_track(rt, &mut tracks, path, entry.file_name())?,
-            Err(error) => return Err(unread(alloc, path, &error)),
-        }
+    match names_in(rt, path) {
+        Ok(names) => Ok(Some(tracks_of(rt, path, &names)?)),
+        Err(error) if error.kind() == ErrorKind::NotFound => Ok(None),
+        Err(error) => Err(unread(rt.alloc(), path, &error)),
     }
-    Ok(Some(tracks))
 }
 
 /// Reads the files of a folder.

@@ -1,6 +1,5 @@
 // What words ask for.
 
-use crate::clock::clock_of;
 use crate::folder::read_folder;
 use crate::stop::Stop;
 use crate::write::write_files;
@@ -16,7 +15,7 @@ fn bytes(text: Option<&str>) -> Option<&[u8]> {
 }
 
 // What was typed in for a page.
-fn typed<'a>(words: &PageWords<'a>) -> page_html::Words<'a> {
+fn typed<'a>(words: &'a PageWords<'a>) -> page_html::Words<'a> {
     page_html::Words {
         title: bytes(words.title),
         study: bytes(words.study),
@@ -27,7 +26,7 @@ fn typed<'a>(words: &PageWords<'a>) -> page_html::Words<'a> {
 }
 
 // What tables and a page need beside the files of the folder.
-fn words_of<'a>(words: &PageWords<'a>, clock: &'a Clock) -> Words<'a> {
+fn words_of<'a>(words: &'a PageWords<'a>, clock: &'a Clock) -> Words<'a> {
     Words {
         page: typed(words),
         made: Made {
@@ -44,16 +43,16 @@ fn words_of<'a>(words: &PageWords<'a>, clock: &'a Clock) -> Words<'a> {
     }
 }
 
-/// Makes the tables and the page of the folder that words name.
+/// Makes the tables and the page of the folder that words name, with dates by a clock.
 ///
 /// # Errors
 ///
 /// Why they are not made.
-pub(crate) fn make<R: Files + AllocGlobal + Clone + Drop>(
+pub(crate) fn make<'a, R: Files + AllocGlobal + Clone + Drop>(
     rt: &R,
-    words: &PageWords<'_>,
+    words: &'a PageWords<'a>,
+    clock: &'a Clock,
 ) -> Result<(), Stop> {
-    let clock = clock_of(rt, words.clock)?;
     let read = read_folder(rt, words.folder)?;
     let given = Given {
         report: &read.report,
@@ -61,6 +60,7 @@ pub(crate) fn make<R: Files + AllocGlobal + Clone + Drop>(
         boundary: read.boundary.as_deref(),
         tracks: read.tracks.as_deref(),
     };
-    let made = files_of(rt.alloc(), &given, &words_of(words, &clock))?;
+    let typed = words_of(words, clock);
+    let made = files_of(rt.alloc(), &given, &typed)?;
     write_files(rt, words.folder, &made)
 }
