@@ -29,11 +29,11 @@ fn refusal_of_tracks(alloc: Global, first: &str, second: &str) -> Result<String,
 }
 
 // Why a folder with this report, this record and this boundary is refused.
-fn refusal_of_texts(
+fn refusal_of_texts<'a>(
     alloc: Global,
-    report: &str,
-    record: Option<&[u8]>,
-    boundary: &str,
+    report: &'a str,
+    record: Option<&'a [u8]>,
+    boundary: &'a str,
 ) -> Result<String, AllocError> {
     let tracks = tracks(alloc, FIRST_TRACK, SECOND_TRACK)?;
     let given = Given {
