@@ -84,7 +84,7 @@ fn ground(
     unseen: u32,
     has_boundary: bool,
 ) -> Result<Vec<u8>, AllocError> {
-    let numbers: Vec<u32> = (1..unseen + 1).collect(alloc)?;
+    let numbers: Vec<u32> = (1..unseen.saturating_add(1)).collect(alloc)?;
     let maps = Maps {
         drawings: Vec::new(alloc),
         unseen: numbers,
