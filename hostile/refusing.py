@@ -1,6 +1,7 @@
 """Runs of a program in which calls are made to fail by the library of `refuse.c`, which is preloaded. Needs `cc`."""
 
 import itertools
+import os
 import pathlib
 import struct
 import subprocess
@@ -21,6 +22,15 @@ def sampled(count, most):
     if count <= most:
         return range(1, count + 1)
     return [1 + i * (count - 1) // (most - 1) for i in range(most)]
+
+
+def tree(folder):
+    """What a folder holds: what a link leads to, the bytes of each file, and nothing of all else."""
+    found = {}
+    for path in folder.rglob("*"):
+        kept = os.readlink(path) if path.is_symlink() else path.read_bytes() if path.is_file() else None
+        found[str(path.relative_to(folder))] = kept
+    return found
 
 
 class Found(typing.NamedTuple):

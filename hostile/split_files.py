@@ -8,32 +8,21 @@ as before. No line has a control character. Prints what went wrong; the last lin
 As root it runs as nobody where a file has to be another's.
 """
 
-import argparse
-import contextlib
 import os
 import pathlib
 import re
-import resource
-import shutil
 import signal
-import subprocess
 import sys
-import tempfile
-import threading
 
 sys.dont_write_bytecode = True
 
-import refusing
-from refusing import Found, Wrong
+import rooms
+from refusing import tree
+from rooms import CONTROL, SECONDS, SIGNS, expect, feed, refuses_odd_words, unread_pipe
 
-SECONDS = 60
-NOBODY = 65534
-LINE = re.compile("(?:homerange-)?split: [^\x00-\x1f\x7f-\x9f\u2028\u2029]+\n")
-CONTROL = re.compile("[\x00-\x1f\x7f-\x9f\u2028\u2029]")
 TITLES = b"animal,second,easting,northing\n"
 OWN = TITLES + b"fox,0,1000,2000\nowl,0,1500,2500\nfox,60,1010,2020\nowl,30,1510,2490\n"
 LONG = TITLES + b"".join(b"fox,%d,%d,5134000\n" % (at, 562000 + at % 97) for at in range(30_000))
-SIGNS = ("\x1b[31m", "\u0085", "\u009b2J", "\u2028", "\u2029", "\x7f", "\x08")
 ODD_PATHS = ("a\nb.csv", "\r.csv", "\t.csv", *(f"a{sign}b.csv" for sign in SIGNS))
 ODD_WORDS = (
     (b"\xff.csv",),
@@ -56,67 +45,20 @@ ODD_TABLES = (
 )
 
 
-def tree(folder):
-    """What a folder holds: what a link leads to, the bytes of each file, and nothing of all else."""
-    found = {}
-    for path in folder.rglob("*"):
-        kept = os.readlink(path) if path.is_symlink() else path.read_bytes() if path.is_file() else None
-        found[str(path.relative_to(folder))] = kept
-    return found
+class Room(rooms.Room):
+    """Where tracks are made of exports."""
 
+    name = "homerange-split"
+    line = re.compile("(?:homerange-)?split: [^\x00-\x1f\x7f-\x9f\u2028\u2029]+\n")
 
-class Room:
-    """Where runs are made: the program, a library that makes calls fail, and a folder for each run."""
-
-    def __init__(self, program, folder):
-        self.folder, self.program = folder, folder / "homerange-split"
-        shutil.copy(program, self.program)
-        self.library = refusing.Runs(self.program, folder).library
-        folder.chmod(0o755)
-
-    @contextlib.contextmanager
     def own(self, **files):
         """A folder with these files, whose names have a point for `__`."""
-        with tempfile.TemporaryDirectory(dir=self.folder) as name:
-            folder = pathlib.Path(name)
-            folder.chmod(0o755)
-            for path, text in files.items():
-                (folder / path.replace("__", ".")).write_bytes(text)
-            yield folder
-
-    def start(self, folder, *words, **streams):
-        pipes = {"stdin": subprocess.DEVNULL, "stdout": subprocess.PIPE, "stderr": subprocess.PIPE, **streams}
-        return subprocess.Popen([self.program, *words], cwd=folder, **pipes)
-
-    def end(self, folder, running, given=None):
-        """What a run comes to."""
-        try:
-            output, told = running.communicate(given, SECONDS)
-        except subprocess.TimeoutExpired:
-            running.kill()
-            raise Wrong(f"no end within {SECONDS} seconds") from None
-        return Found(running.returncode, (output or b"").decode(), (told or b"").decode(), tree(folder))
-
-    def run(self, folder, *words, given=None, **streams):
-        more = {} if given is None else {"stdin": subprocess.PIPE}
-        return self.end(folder, self.start(folder, *words, **more, **streams), given)
+        return self.with_files({path.replace("__", "."): text for path, text in files.items()})
 
     def plain(self, text, *words):
         """What the same bytes come to as a plain file."""
         with self.own(export__csv=text) as folder:
             return self.run(folder, *words, "export.csv")
-
-
-def expect(is_so, why, found):
-    if not is_so:
-        raise Wrong(f"{why}: {found}")
-
-
-def expect_refused(found, status, text, before):
-    """That a run was refused in one line, which has this text, and left all as it was."""
-    expect(found.status == status, f"status {status} is wanted", found)
-    expect(LINE.fullmatch(found.told) and text in found.told, f"one line with {text!r} is wanted", found)
-    expect(found.files == before, "files are not as before", found)
 
 
 def expect_tracks(found, plain, are_told=True):
@@ -127,18 +69,6 @@ def expect_tracks(found, plain, are_told=True):
     expect(found.status == 0, "status 0 is wanted", found)
     expect(not are_told or found.told == plain.told, f"{plain.told!r} is wanted", found)
     expect(made == wanted, "other tracks", found)
-
-
-def feed(path, pieces):
-    """Writes pieces into a pipe, in a thread of its own."""
-    def write():
-        with contextlib.suppress(BrokenPipeError), open(path, "wb", 0) as pipe:
-            for piece in pieces:
-                pipe.write(piece)
-
-    writing = threading.Thread(target=write, daemon=True)
-    writing.start()
-    return writing
 
 
 def of_pipe(room, pieces):
@@ -168,12 +98,12 @@ def a_long_pipe(room):
 
 def a_pipe_that_ends_at_once(room):
     """a named pipe whose writer writes nothing"""
-    expect_refused(of_pipe(room, []), 1, "", {"export.csv": None})
+    room.expect_refused(of_pipe(room, []), 1, "", {"export.csv": None})
 
 
 def a_pipe_that_is_cut(room):
     """a named pipe whose writer ends within a record"""
-    expect_refused(of_pipe(room, [OWN[:-12]]), 1, "record 4", {"export.csv": None})
+    room.expect_refused(of_pipe(room, [OWN[:-12]]), 1, "record 4", {"export.csv": None})
 
 
 def standard_input(room):
@@ -188,7 +118,7 @@ def no_standard_input(room):
     """standard input that is closed"""
     with room.own() as folder:
         found = room.run(folder, "-", stdin=None, preexec_fn=lambda: os.close(0))
-        expect_refused(found, 1, "standard input", {})
+        room.expect_refused(found, 1, "standard input", {})
 
 
 def refused_export(room, path, text):
@@ -197,7 +127,7 @@ def refused_export(room, path, text):
         (folder / "loop").symlink_to("loop")
         (folder / "nowhere").symlink_to("missing")
         before = tree(folder)
-        expect_refused(room.run(folder, path), 1, text, before)
+        room.expect_refused(room.run(folder, path), 1, text, before)
 
 
 def a_folder(room):
@@ -228,9 +158,8 @@ def an_empty_path(room):
 def an_endless_device(room):
     """an export without an end, with 300 MB of memory"""
     with room.own() as folder:
-        limit = 300 << 20
-        found = room.run(folder, "/dev/zero", preexec_fn=lambda: resource.setrlimit(resource.RLIMIT_AS, (limit, limit)))
-        expect_refused(found, 3, "memory", {})
+        found = room.with_memory(folder, 300 << 20, "/dev/zero")
+        room.expect_refused(found, 3, "memory", {})
 
 
 def a_full_standard_error(room):
@@ -250,9 +179,7 @@ def no_standard_error(room):
 
 def a_standard_error_that_nobody_reads(room):
     """standard error that is a pipe without a reader"""
-    reader, writer = os.pipe()
-    os.close(reader)
-    with room.own(export__csv=OWN) as folder, open(writer, "wb") as pipe:
+    with room.own(export__csv=OWN) as folder, unread_pipe() as pipe:
         expect_tracks(room.run(folder, "export.csv", stderr=pipe), room.plain(OWN), are_told=False)
 
 
@@ -260,7 +187,7 @@ def a_full_standard_output(room):
     """standard output that is full"""
     with room.own(export__csv=OWN) as folder, open("/dev/full", "wb") as full:
         for word in ("--help", "--version"):
-            expect_refused(room.run(folder, word, stdout=full), 4, "standard output", {"export.csv": OWN})
+            room.expect_refused(room.run(folder, word, stdout=full), 4, "standard output", {"export.csv": OWN})
         expect_tracks(room.run(folder, "export.csv", stdout=full), room.plain(OWN))
 
 
@@ -268,32 +195,20 @@ def no_standard_output(room):
     """standard output that is closed"""
     with room.own(export__csv=OWN) as folder:
         closed = {"stdout": None, "preexec_fn": lambda: os.close(1)}
-        expect_refused(room.run(folder, "--help", **closed), 4, "standard output", {"export.csv": OWN})
+        room.expect_refused(room.run(folder, "--help", **closed), 4, "standard output", {"export.csv": OWN})
         expect_tracks(room.run(folder, "export.csv", **closed), room.plain(OWN))
 
 
 def a_standard_output_that_nobody_reads(room):
     """standard output that is a pipe without a reader"""
-    reader, writer = os.pipe()
-    os.close(reader)
-    with room.own() as folder, open(writer, "wb") as pipe:
+    with room.own() as folder, unread_pipe() as pipe:
         expect(room.run(folder, "--help", stdout=pipe).status == 4, "status 4 is wanted", "")
-
-
-def stopped(room, folder, kind, at):
-    """A run that stops at this call of a kind."""
-    calls = {"LD_PRELOAD": str(room.library), f"{kind}_AT": str(at), f"{kind}_AS": "-1"}
-    running = room.start(folder, "export.csv", env=calls)
-    _, status = os.waitpid(running.pid, os.WUNTRACED)
-    if not os.WIFSTOPPED(status):
-        raise Wrong(f"there is no call {at} of {kind}")
-    return running
 
 
 def changed(room, change):
     """What an export comes to that is changed after a part of it was read, and how many bytes were read by then."""
     with room.own(export__csv=LONG) as folder:
-        running = stopped(room, folder, "READ", 2)
+        running = room.stopped(folder, "READ", 2, "export.csv")
         place = max(int(path.read_text().split()[1]) for path in pathlib.Path(f"/proc/{running.pid}/fdinfo").iterdir())
         change(folder / "export.csv", place)
         os.kill(running.pid, signal.SIGCONT)
@@ -339,19 +254,19 @@ def a_file_that_is_replaced(room):
 def a_folder_that_appears(room):
     """a folder of tracks that another makes meanwhile"""
     with room.own(export__csv=OWN) as folder:
-        running = stopped(room, folder, "SYNC", 1)
+        running = room.stopped(folder, "SYNC", 1, "export.csv")
         (folder / "tracks").mkdir()
         (folder / "tracks/fox.csv").write_bytes(b"of another")
         os.kill(running.pid, signal.SIGCONT)
         before = {"export.csv": OWN, "tracks": None, "tracks/fox.csv": b"of another"}
-        expect_refused(room.end(folder, running), 1, "there already", before)
+        room.expect_refused(room.end(folder, running), 1, "there already", before)
 
 
 def refused_into(room, path, status, text, prepare=lambda folder: None):
     with room.own(export__csv=OWN) as folder:
         prepare(folder)
         before = tree(folder)
-        expect_refused(room.run(folder, "--into", path, "export.csv"), status, text, before)
+        room.expect_refused(room.run(folder, "--into", path, "export.csv"), status, text, before)
 
 
 def into_a_link_to_nothing(room):
@@ -392,7 +307,7 @@ def into_no_name(room):
         with room.own(export__csv=OWN) as folder:
             found = room.run(folder, "--into", path, "export.csv")
             expect(found.status in (1, 2, 4), "a refusal is wanted", found)
-            expect_refused(found, found.status, "", {"export.csv": OWN})
+            room.expect_refused(found, found.status, "", {"export.csv": OWN})
 
 
 def into_slashes(room):
@@ -404,19 +319,13 @@ def into_slashes(room):
         expect(found.status == 0 and "of/this/year/fox.csv" in found.files, "tracks are wanted", found)
 
 
-def as_nobody(room, folder, *words):
-    """What a run comes to that is not root's."""
-    streams = {"user": NOBODY, "group": NOBODY, "extra_groups": []} if os.geteuid() == 0 else {}
-    return room.run(folder, *words, **streams)
-
-
 def a_file_of_others(room):
     """an export that may not be read"""
     with room.own(export__csv=OWN) as folder:
         (folder / "export.csv").chmod(0)
-        found = as_nobody(room, folder, "export.csv")
+        found = room.as_nobody(folder, "export.csv")
         (folder / "export.csv").chmod(0o644)
-        expect_refused(found._replace(files={}), 1, "Permission denied", {})
+        room.expect_refused(found._replace(files={}), 1, "Permission denied", {})
         expect(tree(folder) == {"export.csv": OWN}, "files are not as before", found)
 
 
@@ -426,36 +335,31 @@ def into_a_folder_of_others(room):
         for mode, path in ((0o555, "own/tracks"), (0o555, "own/of/tracks"), (0, "own/tracks")):
             (folder / "own").mkdir()
             (folder / "own").chmod(mode)
-            found = as_nobody(room, folder, "--into", path, "export.csv")
+            found = room.as_nobody(folder, "--into", path, "export.csv")
             (folder / "own").rmdir()
-            expect_refused(found._replace(files={}), 4, "Permission denied", {})
+            room.expect_refused(found._replace(files={}), 4, "Permission denied", {})
 
 
 def odd_paths(room):
     """names of files with ends of lines, controls, and signs that turn a line"""
     for name in ODD_PATHS:
         with room.own() as folder:
-            expect_refused(room.run(folder, name), 1, ".csv: ", {})
+            room.expect_refused(room.run(folder, name), 1, ".csv: ", {})
             (folder / name).write_bytes(OWN)
             found = room.run(folder, "--into", f"{name}.d", name)
             expect(found.status == 0 and f"{name}.d/split.txt" in found.files, "tracks are wanted", found)
             lines = found.told.splitlines(keepends=True)
-            expect(all(map(LINE.fullmatch, lines)) and "".join(lines) == found.told, "lines with controls", found)
+            expect(all(map(room.line.fullmatch, lines)) and "".join(lines) == found.told, "lines with controls", found)
             record = found.files[f"{name}.d/split.txt"].decode()
             is_clean = not CONTROL.search(record.replace("\n", "")) and record.count("export,") == 1
             expect(is_clean, "a record with controls", record)
             before = tree(folder)
-            expect_refused(room.run(folder, "--into", f"{name}.d", name), 1, "there already", before)
+            room.expect_refused(room.run(folder, "--into", f"{name}.d", name), 1, "there already", before)
 
 
 def odd_words(room):
     """words that are no text, and options with controls"""
-    with room.own(export__csv=OWN) as folder:
-        before = tree(folder)
-        for words in ODD_WORDS:
-            found = room.run(folder, *words)
-            expect(found.status in (1, 2), "a refusal is wanted", found)
-            expect_refused(found, found.status, "", before)
+    refuses_odd_words(room, {"export.csv": OWN}, ODD_WORDS)
 
 
 def odd_cells(room):
@@ -464,7 +368,7 @@ def odd_cells(room):
         for table in ODD_TABLES:
             text = table.replace("@", sign)
             with room.own(export__csv=text.encode()) as folder:
-                expect_refused(room.run(folder, "export.csv"), 1, "", {"export.csv": text.encode()})
+                room.expect_refused(room.run(folder, "export.csv"), 1, "", {"export.csv": text.encode()})
 
 
 def odd_names(room):
@@ -475,7 +379,7 @@ def odd_names(room):
         found = room.run(folder, "export.csv")
         expect(found.status == 0, "tracks are wanted", found)
         lines = found.told.splitlines(keepends=True)
-        expect(all(map(LINE.fullmatch, lines)) and "".join(lines) == found.told, "lines with controls", found)
+        expect(all(map(room.line.fullmatch, lines)) and "".join(lines) == found.told, "lines with controls", found)
         expect(sum(path.endswith(".csv") for path in found.files) == 1 + len(SIGNS), "a track of each is wanted", found)
 
 
@@ -519,25 +423,5 @@ TRIALS = (
 )
 
 
-def is_well(trial, room):
-    try:
-        trial(room)
-    except Wrong as wrong:
-        print(f"failed: {trial.__doc__}: {wrong}")
-        return False
-    return True
-
-
-def main():
-    parser = argparse.ArgumentParser(description=__doc__.split("\n\n")[0])
-    parser.add_argument("homerange_split", type=pathlib.Path, help="the built program")
-    program = parser.parse_args().homerange_split
-    with tempfile.TemporaryDirectory() as name:
-        room = Room(program, pathlib.Path(name))
-        found = [is_well(trial, room) for trial in TRIALS]
-    print(f"{found.count(True)} passed, {found.count(False)} failed")
-    raise SystemExit(not all(found))
-
-
 if __name__ == "__main__":
-    main()
+    rooms.main(__doc__.split("\n\n")[0], Room, TRIALS)

@@ -34,8 +34,10 @@ def content():
         if path.parent.name != "commands":
             yield f"homerange/package/{path.relative_to(PACKAGE)}", path.read_bytes(), 0o644
     # As in a wheel: the package has programs of its own, and holds them to their checksums.
-    for name, rights in (("homerange", 0o755), ("homerange-split", 0o755), ("SOURCES", 0o644), ("SHA256SUMS", 0o644)):
-        yield f"homerange/package/release/{name}", (RELEASE / name).read_bytes(), rights
+    for name in ("SOURCES", "SHA256SUMS"):
+        yield f"homerange/package/release/{name}", (RELEASE / name).read_bytes(), 0o644
+    for name in re.findall("  release/(.+)", (RELEASE / "SHA256SUMS").read_text("utf-8")):
+        yield f"homerange/package/release/{name}", (RELEASE / name).read_bytes(), 0o755
 
 
 def write(path):

@@ -1,7 +1,7 @@
 #!/bin/sh
-# build.sh [--anew] [PROGRAM]: proves a program, homerange if left out, or homerange-split, and the crates that it stands on,
-# with `rt`, and leaves it in out/, with build.log or build-split.log, what the prover said, and SOURCES, the checksums of
-# what it was made from.
+# build.sh [--anew] [PROGRAM]: proves a program, homerange if left out, homerange-split or homerange-page, and the crates that
+# it stands on, with `rt`, and leaves it in out/, with build.log, build-split.log or build-page.log, what the prover said, and
+# SOURCES, the checksums of what it was made from.
 #
 # The crates are proved side by side, on a copy. A toolchain that keeps what this machine has proved before, here or in
 # another clone, proves it again with --anew alone; an older one always does. The status is 70 where the program could not
@@ -19,7 +19,7 @@ if [ "${1:-}" = --anew ]; then
     shift
 fi
 [ $# -gt 0 ] || set -- homerange
-is_program "$@" || misuse "it takes --anew, and homerange or homerange-split, and not $*"
+is_program "$@" || misuse "it takes --anew, and one of $programs, and not $*"
 name=$1
 out=$top/out
 log=$out/build${name#homerange}.log

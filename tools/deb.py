@@ -4,6 +4,7 @@ the package for Python with its commands, and the documents. Two calls write the
 
 import gzip
 import os
+import re
 import shutil
 import subprocess
 import sys
@@ -32,10 +33,11 @@ Installed-Size: {{size}}
 Description: home ranges of tagged animals, by a proved program
  Minimum convex polygons of location fixes, percent polygons, incremental area
  analysis and overlaps. Each function of the program is proved to meet its
- contract, and its numbers are exact integers. With it come the package for
- Python and its commands: homerange-split makes files of an export,
- homerange-ranges all that a plan needs, homerange-verify checks a folder of
- evidence.
+ contract, and its numbers are exact integers. With it come the programs
+ homerange-split, which makes files of an export, and homerange-page, which
+ makes tables and a page of a report, and the package for Python with its
+ commands: homerange-ranges makes all that a plan needs, homerange-verify
+ checks a folder of evidence.
 """
 # Python keeps what it compiled beside the modules.
 REMOVE = f"""#!/bin/sh
@@ -55,16 +57,32 @@ def write(path: Path, data: bytes, rights: int = 0o644) -> None:
     path.chmod(rights)
 
 
+def listed(folder: str) -> list[str]:
+    """The files of a folder of which the release has a checksum."""
+    return re.findall(f"  {folder}/(.+)", (TOP / "release/SHA256SUMS").read_text("utf-8"))
+
+
+def commands() -> dict[str, str]:
+    """The commands of the package for Python, each with the place of its function."""
+    project = tomllib.loads((TOP / "python/pyproject.toml").read_text("utf-8"))
+    return dict(project["project"]["scripts"])
+
+
 def put_programs(root: Path) -> None:
-    """The programs, which the package for Python finds as its own, and their pages of the manual. The command
-    homerange-split is the package's."""
+    """The programs, which the package for Python finds as its own, their lists of releases, and their pages of the manual.
+    Each is a command, but for one whose name a command of that package has, such as homerange-split."""
     release = root / MODULES / "homerange" / "release"
-    write(root / "usr/bin/homerange", (TOP / "release/homerange").read_bytes(), 0o755)
-    release.mkdir(parents=True)
-    for name in ("SOURCES", "SHA256SUMS", "RELEASES", "RELEASES-split", "homerange-split"):
+    for name in listed("release"):
+        if name in commands():
+            write(release / name, (TOP / "release" / name).read_bytes(), 0o755)
+        else:
+            write(root / "usr/bin" / name, (TOP / "release" / name).read_bytes(), 0o755)
+            release.mkdir(parents=True, exist_ok=True)
+            (release / name).symlink_to(f"../../../../../bin/{name}")
+        shutil.copy(TOP / "release" / f"RELEASES{name.removeprefix('homerange')}", release)
+    for name in ("SOURCES", "SHA256SUMS"):
         shutil.copy(TOP / "release" / name, release)
-    (release / "homerange").symlink_to("../../../../../bin/homerange")
-    for page in ("homerange.1", "homerange-split.1"):
+    for page in listed("docs"):
         write(root / "usr/share/man/man1" / f"{page}.gz", gzip.compress((TOP / "docs" / page).read_bytes(), mtime=0))
 
 
@@ -76,8 +94,7 @@ def put_modules(root: Path) -> None:
     herd.mkdir()
     for name in ("plan.sh", "step.sh", "words.sh"):
         shutil.copy(TOP / "tools/herd" / name, herd)
-    project = tomllib.loads((TOP / "python/pyproject.toml").read_text("utf-8"))
-    for command, place in project["project"]["scripts"].items():
+    for command, place in commands().items():
         module, name = place.split(":")
         write(root / "usr/bin" / command, COMMAND.format(module=module, name=name).encode(), 0o755)
 

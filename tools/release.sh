@@ -1,10 +1,10 @@
 #!/bin/sh
-# release.sh [--check | --deb [FOLDER]]: builds both programs and makes the release of them: the folder release with
-# homerange and homerange-split, SOURCES (the checksum of what each was made from, behind 'sources' and 'sources-split', and of
-# the logic that they were proved in; the number of the toolchain's kit and the checksum of its archive), SHA256SUMS (of both
-# and their manual pages) and a line in RELEASES, the list of all programs homerange that were ever released, and in
-# RELEASES-split, that of all programs homerange-split: version, checksum, logic and sources. No line is taken out, since
-# folders that such a program made are to be verified for ever.
+# release.sh [--check | --deb [FOLDER]]: builds all programs and makes the release of them: the folder release with
+# homerange, homerange-split and homerange-page, SOURCES (the checksum of what each was made from, behind 'sources',
+# 'sources-split' and 'sources-page', and of the logic that they were proved in; the number of the toolchain's kit and the
+# checksum of its archive), SHA256SUMS (of all and their manual pages) and for each a line in the list of all programs of its
+# name that were ever released, RELEASES, RELEASES-split or RELEASES-page: version, checksum, logic and sources. No line is
+# taken out, since folders that such a program made are to be verified for ever.
 #
 # With --check it changes nothing. The status is 0 where the release is whole, of these sources and of the logic that is
 # here, and, byte for byte, the programs that are built of them now. With --deb it makes of the release, which has to be of
@@ -23,17 +23,20 @@ fail() {
     exit 1
 }
 
-# Builds the programs of these sources, and leaves the release out. The first is looked at once more, since it is built anew
-# where the second had to be by a toolchain of another logic.
+# Builds the programs of these sources, and leaves the release out. All are looked at twice, since those before one that had
+# to be built by a toolchain of another logic are built anew.
 build() {
     HOMERANGE_BUILD=1
-    for name in $programs homerange; do find_program "$name" || exit; done
+    for name in $programs $programs; do find_program "$name" || exit; done
     built=${program%/*}
 }
 
 # The checksums of the release and its manual pages, as they stand.
 checksums() {
-    (cd "$top" && sha256sum release/homerange release/homerange-split docs/homerange.1 docs/homerange-split.1)
+    {
+        for name in $programs; do echo "release/$name"; done
+        for name in $programs; do echo "docs/$name.1"; done
+    } | (cd "$top" && xargs sha256sum)
 }
 
 # The line of a program of the release in its list of releases.

@@ -1,19 +1,19 @@
-# What the programs homerange and homerange-split are built from, and which program is that of the sources. Other scripts
-# read this one; they have the top of the repository in $top. It starts few processes, since each call of ./homerange goes
-# through it.
+# What the programs are built from, and which program is that of the sources. Other scripts read this one; they have the top
+# of the repository in $top. It starts few processes, since each call of ./homerange goes through it.
 # shellcheck shell=sh disable=SC2154,SC2034
 
-programs='homerange homerange-split'
+# All programs, in the order in which they are built, released and listed.
+programs='homerange homerange-split homerange-page'
 
 # Whether these words are the name of a program.
 is_program() {
     [ $# -eq 1 ] && case " $programs " in *" $1 "*) ;; *) false ;; esac
 }
 
-# Puts into $crate the name of the crate that a program is built from.
+# Puts into $crate the name of the crate that a program is built from: its own, with underscores.
 name_crate() {
     case $1 in
-        homerange-split) crate=homerange_split ;;
+        *-*) crate=${1%%-*}_${1#*-} ;;
         *) crate=$1 ;;
     esac
 }
@@ -58,7 +58,7 @@ END
 }
 
 # Whether a program in this folder was made from sources of the checksum $sum: SOURCES has it behind 'sources' for homerange,
-# and behind 'sources-split' for homerange-split.
+# and behind such as 'sources-split' for homerange-split.
 is_of_sum() {
     [ -x "$2/$1" ] && [ -r "$2/SOURCES" ] || return
     while read -r kind made; do
@@ -68,7 +68,7 @@ is_of_sum() {
 }
 
 # Leaves in out/ a program that was made of the sources of $sum, the log of its build, and its line in SOURCES. What SOURCES
-# says of the other program stays where that was made in the same logic.
+# says of the other programs stays where they were made in the same logic.
 keep_program() {
     own=sources${1#homerange}
     logic="logic $(rt version | sed 's/.* logic //')"

@@ -2,12 +2,12 @@
 # test.sh [PROGRAM [PART ..]]: tests the scripts, what pages quote, and the program run for real, in a folder of its own
 # that it removes.
 #
-# PROGRAM is the program (if left out, that of tools/program.sh). homerange-split is the one beside it, or else the one of
-# these sources, where that was built or released. A PART is a file of tools/tests without its `.sh`. If parts are left out
-# all are run, as many at once as there are processors; those whose names begin with the same word are run one after the
-# other, in one folder. Needs python3 and sha256sum. Tests that need something else are skipped where
-# it is not there, and said so: all of it is installed by tools/setup.sh. The last line is 'N passed, M failed', with
-# ', K skipped' behind it where some were; the status is 0 where none failed.
+# PROGRAM is the program (if left out, that of tools/program.sh). homerange-split and homerange-page are those beside it, or
+# else those of these sources, where they were built or released. A PART is a file of tools/tests without its `.sh`. If parts
+# are left out all are run, as many at once as there are processors; those whose names begin with the same word are run one
+# after the other, in one folder. Needs python3 and sha256sum. Tests that need something else are skipped where it is not
+# there, and said so: all of it is installed by tools/setup.sh. The last line is 'N passed, M failed', with ', K skipped'
+# behind it where some were; the status is 0 where none failed.
 set -u
 tools=$(cd "$(dirname "$0")" && pwd)
 top=${tools%/*}
@@ -58,8 +58,18 @@ is_here() {
 
 # Whether homerange-split is there; where it is not, says what is skipped.
 is_split_here() {
-    [ -x "$splitter" ] || {
-        skip "$1: no homerange-split"
+    is_beside homerange-split "$1"
+}
+
+# Whether homerange-page is there; where it is not, says what is skipped.
+is_page_here() {
+    is_beside homerange-page "$1"
+}
+
+# Whether this program lies beside the one that is tested; where it does not, says what is skipped.
+is_beside() {
+    [ -x "${HOMERANGE%/*}/$1" ] || {
+        skip "$2: no $1"
         return 1
     }
 }
@@ -108,12 +118,14 @@ fi
 # In a folder of its own: where it was built, a log lies beside it, which evidence takes along.
 mkdir "$work/tried"
 cp -- "$1" "$work/tried/homerange" || exit
-program=$(dirname -- "$1")/homerange-split
-if [ -x "$program" ] || find_made homerange-split; then cp -- "$program" "$work/tried"; fi
+for name in homerange-split homerange-page; do
+    program=$(dirname -- "$1")/$name
+    if [ -x "$program" ] || find_made "$name"; then cp -- "$program" "$work/tried"; fi
+done
 HOMERANGE=$(readlink -f -- "$work/tried/homerange")
 export HOMERANGE
 # shellcheck disable=SC2034
-splitter=${HOMERANGE%/*}/homerange-split
+splitter=${HOMERANGE%/*}/homerange-split page_program=${HOMERANGE%/*}/homerange-page
 shift
 touch "$work/passed" "$work/failed" "$work/skipped"
 for part in "$@"; do

@@ -6,6 +6,7 @@ setuptools and wheel are those of this machine, where it has them, so that nothi
 from __future__ import annotations
 
 import os
+import re
 import shutil
 import site
 import sys
@@ -30,15 +31,17 @@ def find_tools() -> list[str]:
 
 
 def put_programs(package: Path) -> bool:
-    """Puts the released programs, their checksums and what they were made from into a copy of the package; answers whether
-    it has them then. One that was unpacked from a source distribution has them already."""
+    """Puts the released programs, with the list of releases of each, their checksums and what they were made from into a copy
+    of the package; answers whether it has them then. One that was unpacked from a source distribution has them already."""
     release, own = HERE.parent / "release", package / "release"
     if not own.is_dir() and (release / "homerange").is_file():
         own.mkdir()
-        for name in ("homerange", "homerange-split", "SOURCES", "RELEASES", "RELEASES-split"):
-            shutil.copy2(release / name, own / name)
-        lines = (release / "SHA256SUMS").read_text("utf-8").splitlines(keepends=True)
-        (own / "SHA256SUMS").write_text("".join(line for line in lines if "  release/" in line), "utf-8")
+        shutil.copy2(release / "SOURCES", own)
+        sums = re.findall("(.*  release/(.*)\n)", (release / "SHA256SUMS").read_text("utf-8"))
+        for _, name in sums:
+            shutil.copy2(release / name, own)
+            shutil.copy2(release / f"RELEASES{name.removeprefix('homerange')}", own)
+        (own / "SHA256SUMS").write_text("".join(line for line, _ in sums), "utf-8")
     return own.is_dir()
 
 

@@ -11,6 +11,7 @@ from typing import Iterator, NoReturn
 LONGEST = 500  # signs of what is said of an argument
 BYTES = (bytes, bytearray, memoryview)  # neither texts nor numbers, though Python makes either of them
 UNPRINTABLE = re.compile("[\x00-\x1f\x7f-\x9f\u2028\u2029]")
+HALF = re.compile("[\ud800-\udfff]")  # halves of signs, and bytes that are not of UTF-8
 
 
 class HomeRangeInfo(UserWarning):
@@ -87,6 +88,13 @@ def one_line(text: str) -> str:
     return UNPRINTABLE.sub(escaped, text)
 
 
+def fault_of_text(text: str) -> str | None:
+    """Why a text is none that a file in UTF-8 can have; None where it is one."""
+    if "\0" in text:
+        return "has a byte 0"
+    return "is no text in UTF-8" if HALF.search(text) else None
+
+
 def refuse(text: str, kind: str = "option", record: int | None = None) -> NoReturn:
     """Refuses a table or an option. The text says neither the record nor which front end it is. Of one that quotes much the
     middle is left out."""
@@ -106,7 +114,8 @@ def check_file(path: Path) -> Path:
     if os.path.isdir(path):
         raise FileError(one_line(f"{path} is a folder, and a file is wanted"))
     if not os.path.isfile(path):
-        raise FileError(one_line(f"{path}: there is no such file"))
+        is_odd = os.path.exists(path)
+        raise FileError(one_line(f"{path} is a pipe or a device, and a file is wanted" if is_odd else f"{path}: there is no such file"))
     return path
 
 
@@ -114,9 +123,24 @@ def check_place(path: Path) -> Path:
     """A path at which a file or a folder may be written; what is none is refused."""
     if os.path.isdir(path):
         raise FileError(one_line(f"{path} is a folder"))
-    if not os.path.isdir(path.parent):
+    check_folder(path.parent)
+    return path
+
+
+def check_folder(path: Path) -> Path:
+    """A folder that is there; what is none is refused."""
+    if not os.path.isdir(path):
         raise FileError(one_line(f"{path}: there is no such folder"))
     return path
+
+
+def check_no_pipe(path: Path) -> Path:
+    """A path by which a program that is called finds a file: one that this process has open has another one. What has none, as a
+    pipe, is refused."""
+    own = Path(os.path.realpath(path))
+    if os.path.exists(path) and not os.path.exists(own):
+        raise FileError(one_line(f"{path} is a pipe, or a file without a name: write what it gives into a file"))
+    return own if str(path).startswith(("/dev/", "/proc/")) else path
 
 
 @contextmanager
@@ -128,8 +152,16 @@ def files_as_said() -> Iterator[None]:
         raise FileError(one_line(f"{fault.filename}: {fault.strerror}")) from fault
 
 
+def is_path(text: str) -> bool:
+    """Whether the system takes a text as a path."""
+    try:
+        return b"\0" not in os.fsencode(text)
+    except UnicodeEncodeError:  # half a sign, or one that the coding of names has not
+        return False
+
+
 def path_of(value: object, what: str) -> Path:
     """A path that was given; what is none is refused."""
-    if not isinstance(value, (str, os.PathLike)) or not isinstance(text := os.fspath(value), str) or "\0" in text:
+    if not isinstance(value, (str, os.PathLike)) or not isinstance(text := os.fspath(value), str) or not is_path(text):
         refuse(f"{what}={value!r} is no path")
     return Path(text) if text else refuse(f"{what}={value!r} is no path: it is empty")

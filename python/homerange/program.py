@@ -20,7 +20,7 @@ PIECE = 2 ** 20  # bytes of a file that are read together
 PACKAGE = Path(__file__).resolve().parent
 Step = Tuple[Sequence[str], ...]  # a run: the animals of a group, or of a pair of groups
 OWN = PACKAGE / "release" / "homerange"  # what a wheel has
-SPLIT = "homerange-split"  # what lies beside the program
+SPLIT, PAGE = "homerange-split", "homerange-page"  # what lies beside the program
 
 
 class Program(NamedTuple):
@@ -68,17 +68,27 @@ def find_program(program: str | os.PathLike[str] | None = None) -> str:
 
 def find_split_program(program: str | os.PathLike[str] | None = None) -> str:
     """The path of homerange-split, which lies beside the program that find_program finds."""
+    return find_beside(SPLIT, program)
+
+
+def find_page_program(program: str | os.PathLike[str] | None = None) -> str:
+    """The path of homerange-page, which lies there too."""
+    return find_beside(PAGE, program)
+
+
+def find_beside(name: str, program: str | os.PathLike[str] | None) -> str:
+    """The path of the program of this name beside that which find_program finds."""
     path = find_program(program)
-    own = OWN.with_name(SPLIT)
+    own = OWN.with_name(name)
     if path == str(OWN):
         check_own(own)
         return str(own)
     # The command of this package has the same name, and would call itself for ever.
-    for beside in (Path(each).with_name(SPLIT) for each in (path, os.path.realpath(path))):
+    for beside in (Path(each).with_name(name) for each in (path, os.path.realpath(path))):
         if shutil.which(beside) and not is_called(beside):
             return str(beside)
     raise ProgramError(one_line(
-        f"there is no program {SPLIT} beside {path}: install it there, from release/{SPLIT} of homerange's repository"))
+        f"there is no program {name} beside {path}: install it there, from release/{name} of homerange's repository"))
 
 
 def is_called(path: Path) -> bool:

@@ -154,15 +154,17 @@ class Reader:
             self.refuse(line)
 
     def take_counts(self, kind: str, fields: list[str]) -> bool:
-        """Takes a line of an animal, and says whether it fits."""
+        """Takes a line of an animal, and says whether it fits. Names of files have no backslash, so one stands for a sign that
+        ends lines."""
+        name = unescaped(fields[0])
         if kind == "left" and len(fields) == 3 and COUNT.fullmatch(fields[1]):
-            self.left.append((fields[0], int(fields[1]), fields[2]))
+            self.left.append((name, int(fields[1]), fields[2]))
             return True
         numbers, checksum = fields[1:3], fields[3] if len(fields) == 4 else None
         fits = len(fields) in (3, 4) and all(map(COUNT.fullmatch, numbers)) and (not checksum or SUM.fullmatch(checksum))
-        if kind == "left" or not fits or fields[0] in self.tracks:
+        if kind == "left" or not fits or name in self.tracks:
             return False
-        self.tracks[fields[0]] = Made(int(numbers[0]), int(numbers[1]), checksum)
+        self.tracks[name] = Made(int(numbers[0]), int(numbers[1]), checksum)
         return True
 
     def shift(self) -> tuple[int, int]:

@@ -299,6 +299,8 @@ def check_end(text: str, where: str) -> None:
         what = "is cut off: its last line is not 'end,' with the number of animals"
         if text.endswith("\r\n"):
             what = "has lines that end in CR and LF, as Windows and some mails make them: take the file as the program wrote it"
+        if "\0" in text:
+            what = "is no text in UTF-8: it has a byte 0, as files in UTF-16 have: write it in UTF-8"
         raise ReportError(f"{one_line(where)} {what}")
 
 

@@ -1,12 +1,12 @@
-"""UTM zones and other reference systems: their one form, and how much greater areas are on a grid. docs/TABLES.md, Coordinates."""
+"""UTM zones and other reference systems: their one form, and how areas and lengths differ on a grid. docs/TABLES.md, Coordinates."""
 
 from __future__ import annotations
 
 import re
 import warnings
 from functools import lru_cache
-from math import cosh
-from typing import Any, Callable
+from math import cos, hypot, inf, isfinite, remainder, sin, sqrt, tau
+from typing import Any, Callable, NamedTuple, Sequence
 
 from .errors import refuse
 
@@ -14,11 +14,20 @@ ZONE = re.compile("0?([1-9]|[1-5][0-9]|60) ?([NnSs])")
 BAND = re.compile("0?([1-9]|[1-5][0-9]|60) ?([C-HJ-MP-RT-Xc-hj-mp-rt-x])")
 CODE = re.compile("([A-Za-z]+:[A-Za-z0-9]+) [(](.*)[)]")
 DEFINITION = re.compile("[+]proj=[a-z0-9]+( [+][a-z0-9_]+(=[-+A-Za-z0-9_.,]+)?)*")
-SCALE_IN_THE_MIDDLE = 0.9996
-EARTH = 6_371_008.8  # the mean radius in metres
-TOLD, REFUSED = 0.001, 0.01  # how far an areal scale may be from 1 until it is said, and refused
 
-Scale = Callable[[float, float], float]  # the areal scale at an easting and a northing
+
+class Scales(NamedTuple):
+    """How many times greater areas are on a grid than on the ground at a place, and how many times longer a length is there in the
+    direction in which it is longest than in that in which it is shortest."""
+
+    areas: float
+    lengths: float
+
+
+TOLD, REFUSED = Scales(areas=0.001, lengths=0.01), Scales(areas=0.01, lengths=0.1)  # how far each may be from 1 until it is said, and refused
+ScalesAt = Callable[[float, float], Scales]  # the scales at an easting and a northing
+STEP = 100  # metres by which a place is moved on a grid, to see how far it goes on the ground
+WGS_84 = (6_378_137.0, 6_356_752.314245)  # half the axes of its ellipsoid in metres
 
 
 @lru_cache(maxsize=1000)
@@ -97,24 +106,39 @@ def definition_of(system: Any) -> str:
         return str(system.to_proj4()).removesuffix(" +type=crs")
 
 
-def scale_of_zone(easting: float, _: float) -> float:
-    """The areal scale of UTM at an easting, on the sphere."""
-    return (SCALE_IN_THE_MIDDLE * cosh((easting - 500_000) / (SCALE_IN_THE_MIDDLE * EARTH))) ** 2
-
-
-def scale_of_crs(crs: Any) -> Scale | None:
-    """What tells the areal scale of a reference system; None where there is no pyproj."""
+def scales_of_crs(crs: Any) -> ScalesAt | None:
+    """What tells the scales of a reference system, on the ground of its ellipsoid, or of that of WGS 84 where it has a sphere; None
+    where it has neither, or there is no pyproj."""
     try:
-        from pyproj import CRS, Proj, Transformer
+        from pyproj import CRS, Transformer
     except ImportError:
         return None
     system = CRS.from_user_input(crs)
     if len(system.sub_crs_list) > 0:
         system = system.sub_crs_list[0]
-    degrees = Transformer.from_crs(system, system.geodetic_crs, always_xy=True)
-    factors = Proj(system).get_factors
+    if system.ellipsoid is None:
+        return None
+    axes = system.ellipsoid.semi_major_metre, system.ellipsoid.semi_minor_metre
+    to_ground = Transformer.from_crs(system, "+proj=longlat +a={:.6f} +b={:.6f} +no_defs".format(*axes), always_xy=True)
+    ground = WGS_84 if axes[0] == axes[1] else axes
 
-    def scale(easting: float, northing: float) -> float:
-        return float(factors(*degrees.transform(easting, northing)).areal_scale)
+    def scales(easting: float, northing: float) -> Scales:
+        around = [easting + STEP, easting - STEP, easting, easting], [northing, northing, northing + STEP, northing - STEP]
+        return scales_around(*to_ground.transform(*around, radians=True), *ground)
 
-    return scale
+    return scales
+
+
+def scales_around(longitudes: Sequence[float], latitudes: Sequence[float], major: float, minor: float) -> Scales:
+    """The scales at a place, by the radians of those that lie to the east, west, north and south of it on the grid."""
+    if not all(map(isfinite, (*longitudes, *latitudes))):
+        return Scales(inf, inf)
+    latitude, squared = sum(latitudes) / 4, 1 - (minor / major) ** 2
+    bulge = 1 - squared * sin(latitude) ** 2
+    parallel, meridian = major * cos(latitude) / sqrt(bulge), major * (1 - squared) / bulge ** 1.5  # metres of a radian
+    (a, b), (c, d) = ((remainder(longitudes[at] - longitudes[at + 1], tau) * parallel / (2 * STEP),
+                       (latitudes[at] - latitudes[at + 1]) * meridian / (2 * STEP)) for at in (0, 2))
+    # How far a metre of the grid goes on the ground, in the direction in which it goes farthest and in which it goes least far.
+    turned, bent = hypot(a + d, b - c) / 2, hypot(a - d, b + c) / 2
+    most, least = turned + bent, abs(turned - bent)
+    return Scales(1 / (most * least), most / least) if least > 0 else Scales(inf, inf)

@@ -74,3 +74,6 @@ def main(name: str = "homerange-check") -> None:
     except OSError as fault:
         sys.exit(f"{name}: {one_line(fault.filename)}: {fault.strerror}")
 
+
+if __name__ == "__main__":
+    main()

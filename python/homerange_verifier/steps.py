@@ -9,7 +9,7 @@ import subprocess
 from functools import cached_property
 from itertools import combinations_with_replacement
 from pathlib import Path
-from shutil import copyfile
+from shutil import copyfile, copytree
 from typing import Callable, Sequence
 
 from homerange.about import BESIDE, FORM, About, read_about, text_of
@@ -408,7 +408,7 @@ class Verification:
         self.made.mkdir()
         for path in (self.report_file, self.given / ABOUT, *[self.given / BOUNDARY] * (BOUNDARY in self.sums)):
             os.link(path, self.made / path.name)
-        (self.made / TRACKS).symlink_to(self.given / TRACKS)
+        copytree(self.given / TRACKS, self.made / TRACKS, copy_function=os.link)
         run = ran([*beside.MAKE, str(self.program.resolve())], self.made)
         has_tables = all((self.made / name).is_file() for name in TABLES)
         if run.returncode == NOT_THERE:

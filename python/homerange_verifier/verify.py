@@ -104,3 +104,7 @@ def main(name: str = "homerange-verify") -> None:
         os.dup2(os.open(os.devnull, os.O_WRONLY), sys.stdout.fileno())  # in which what is left to write goes
         sys.exit(4)
     sys.exit(findings.status())
+
+
+if __name__ == "__main__":
+    main()

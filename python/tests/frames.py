@@ -1,12 +1,14 @@
 """Data frames of made-up fixes, what was noted of them, and programs that stand in for others."""
 import re
+import warnings
 from contextlib import contextmanager
+from pathlib import Path
 
 import pandas
 import pytest
 
 from homerange import HomeRangeNote
-from homerange.program import find_split_program
+from homerange.program import find_page_program, find_split_program
 
 START = pandas.Timestamp("2024-03-01", tz="UTC")
 
@@ -16,6 +18,13 @@ def frame_of(**animals):
     rows = [(name, START + pandas.Timedelta(minutes=30 * at), *point)
             for name, points in animals.items() for at, point in enumerate(points)]
     return pandas.DataFrame(rows, columns=["animal", "timestamp", "easting", "northing"])
+
+
+def quietly(call, *words, **options):
+    """What a call answers, whatever it notes."""
+    with warnings.catch_warnings():
+        warnings.simplefilter("ignore", HomeRangeNote)
+        return call(*words, **options)
 
 
 def noted(warned):
@@ -33,9 +42,9 @@ def told(text, category=UserWarning):
 
 
 def with_splitter(program):
-    """A program beside which homerange-split is put, where it is looked for."""
-    splitter = find_split_program(None)
-    beside = program.with_name("homerange-split")
-    beside.unlink(missing_ok=True)
-    beside.symlink_to(splitter)
+    """A program beside which homerange-split and homerange-page are put, where they are looked for."""
+    for other in (find_split_program(None), find_page_program(None)):
+        beside = program.with_name(Path(other).name)
+        beside.unlink(missing_ok=True)
+        beside.symlink_to(other)
     return program

@@ -2,6 +2,8 @@
 import datetime
 import decimal
 import pathlib
+import warnings
+from inspect import signature
 
 import numpy
 import pandas
@@ -9,8 +11,9 @@ import pytest
 from exact import cloud
 from frames import frame_of
 
-from homerange import FileError, HomeRangeError, HomeRangeNote, home_range, plot_curve, plot_ranges, read_fixes, read_report
-from homerange import share_inside, write_layers, write_page
+from homerange import FileError, FrameError, HomeRangeError, HomeRangeNote, HomeRanges, home_range, plot_curve, plot_ranges, read_fixes
+from homerange import read_report, share_inside, write_layers, write_page
+from homerange.read.words import ELSEWHERE, FLAGS, FORMS, OURS
 
 EXAMPLES = pathlib.Path(__file__).parents[2] / "examples"
 FRAME = frame_of(a=cloud(1, 12), b=cloud(2, 12))
@@ -89,9 +92,10 @@ def test_arguments_of_pictures(ranges):
 def test_arguments_of_reading(splitter, name):
     is_taken_or_refused(lambda value: read_fixes(EXAMPLES / "export.csv", **{name: value}))
     is_taken_or_refused(lambda value: home_range(FRAME, **{name: value}))
-    fixes = read_fixes(FRAME)
+    fixes, is_option = read_fixes(FRAME), name in {*FORMS, *FLAGS}
+    said = f"{name} says how a table is read, and these fixes were read already" if is_option else f"there is no option {name}"
     for value in (ODD[0], "x"):
-        with pytest.raises(HomeRangeError, match=f"{name} says how a table is read, and these fixes were read already"):
+        with pytest.raises(HomeRangeError, match=said):
             home_range(fixes, **{name: value})
 
 
@@ -137,6 +141,50 @@ def test_bytes_are_neither_numbers_nor_texts(ranges, report, value):
         home_range(FRAME, by=bytearray(len(FRAME)))
 
 
+@pytest.mark.parametrize("name, said", [
+    ("percent", "here it is levels"), ("id", "here it is animal"), ("epsg", "here it is crs"), ("date", "here it is time"),
+    ("timezone", "here it is tz"), ("group", "here it is by"), ("cores", "here it is jobs"), ("unout", "areas are in hectares"),
+    ("unin", "coordinates are in metres, and in no other unit"),
+    ("xy", "easting and northing name columns of metres, and lon and lat those of degrees"),
+    ("sep", "read a file of another form by pandas before, as by pandas.read_csv, and give the data frame"),
+    ("quiet", "warnings.simplefilter('ignore', homerange.HomeRangeInfo) has what was taken not shown")])
+def test_what_others_call_an_option_is_refused_with_the_name_that_it_has_here(name, said):
+    for table in (FRAME, read_fixes(FRAME)):
+        with pytest.raises(FrameError) as caught:
+            home_range(table, **{name: 95})
+        assert str(caught.value) == f"there is no option {name}: {said}"
+
+
+def test_names_of_others_lead_to_arguments_that_there_are():
+    assert {*OURS} <= {*FORMS, *FLAGS, *signature(home_range).parameters}
+    assert not {*ELSEWHERE} & {*FORMS, *FLAGS}
+    with pytest.raises(FrameError, match="^there is no option levels: give it to home_range$"):
+        read_fixes(FRAME, levels=95)
+    with pytest.raises(FrameError, match="^there is no option nonsense$"):
+        home_range(read_fixes(FRAME), nonsense=1)
+
+
+def test_refusals_of_levels_name_the_argument(ranges):
+    boundary = ranges.polygons().geometry.iloc[0]
+    for call, said in (
+            (lambda: share_inside(ranges, boundary, 0.95), "level=0.95 are not levels from 1 to 100: 0.95: levels are per cent, 95"),
+            (lambda: home_range(FRAME, 95.5), "levels=95.5 are not levels from 1 to 100: 95.5 is not whole"),
+            (lambda: home_range(FRAME, "50, 95"), "levels='50, 95' are not levels from 1 to 100: '50, 95' is a text, so write [50, 95] without quotes"),
+            (lambda: share_inside(ranges, "reserve.gpkg"), "reserve is neither a GeoDataFrame with a geometry, a GeoSeries nor a shape of shapely: read "
+             "its file, as by geopandas.read_file(reserve)"),
+            (lambda: plot_ranges(ranges, animals="Fox"), "there is no animal 'Fox': there are 'a', 'b'"),
+            (lambda: share_inside(ranges, boundary, [95, 95]), "level=[95, 95] has a level twice"),
+            (lambda: share_inside(ranges, boundary, 90), "level 90 is none of these ranges (50, 95, 100)"),
+            (lambda: ranges.polygons(0.95), "levels=0.95 are not levels from 1 to 100: 0.95: levels are per cent, 95"),
+            (lambda: plot_ranges(ranges, level="95"), "level='95' are not levels from 1 to 100: '95' is a text, so write 95 without quotes"),
+            (lambda: ranges.corners(0.95), "level 0.95 is none of these ranges (50, 95, 100): 0.95: levels are per cent, 95"),
+            (lambda: ranges.hectares("a", "95"), "level '95' is none of these ranges (50, 95, 100): '95' is a text, so write 95 without quotes")):
+        with pytest.raises(FrameError) as caught:
+            call()
+        assert str(caught.value) == said
+    assert share_inside(ranges, boundary, [50, 95])["level"].tolist() == [50, 50, 95, 95]
+
+
 def test_long_values_are_shown_in_part():
     with pytest.raises(HomeRangeError) as caught:
         home_range(FRAME, unit="x" * 5000)
@@ -145,3 +193,41 @@ def test_long_values_are_shown_in_part():
         home_range(FRAME, levels="x" * 5000)
     assert str(caught.value).startswith("levels='xxx") and str(caught.value).endswith("xx' are not levels from 1 to 100")
     assert len(str(caught.value)) == 504
+
+
+def test_half_a_sign_is_no_path(ranges, report, tmp_path, monkeypatch):
+    monkeypatch.chdir(tmp_path)
+    for call in (read_fixes, home_range, read_report, ranges.evidence, lambda path: write_page(ranges, path), lambda path: write_layers(ranges, path),
+                 lambda path: read_report(report, record=path), lambda path: read_report(report, files=[path])):
+        with pytest.raises(HomeRangeError, match=r"='x.ud83d.gpkg' is no path$"):
+            call("x\ud83d.gpkg")
+
+
+@pytest.mark.parametrize("call, name, own", [
+    (plot_ranges, "levels", "level"), (plot_ranges, "color", "colours"), (plot_ranges, "boundary", "over"), (plot_ranges, "label", "over_name"),
+    (plot_ranges, "axes", "ax"), (plot_curve, "individuals", "animals"), (plot_curve, "panels", "facets"), (HomeRanges.overlap, "levels", "level"),
+    (HomeRanges.corners, "percent", "level"), (HomeRanges.polygons, "level", "levels"), (HomeRanges.hectares, "id", "animal"), (write_page, "author", "by"),
+    (write_page, "boundary", "reserve"), (write_page, "file", "path"), (write_layers, "force", "overwrite"), (read_report, "epsg", "crs"),
+    (share_inside, "over", "reserve"), (HomeRanges.evidence, "boundary", "reserve")])
+def test_arguments_of_other_tools_are_named_as_they_are_here(ranges, tmp_path, call, name, own):
+    with pytest.raises(FrameError, match=f"^there is no argument {name}: here it is {own}$"):
+        call(ranges, **({"folder": tmp_path / "x"} if call is HomeRanges.evidence else {}), **{name: 1})
+    assert call is HomeRanges.evidence or own in signature(call).parameters
+
+
+def test_other_arguments_are_refused_by_their_names(ranges):
+    for call in (plot_ranges, plot_curve, write_page, write_layers, share_inside, HomeRanges.overlap):
+        with pytest.raises(TypeError, match="unexpected keyword argument 'nothing'"):
+            call(ranges, nothing=1)
+    with pytest.raises(FrameError, match="^there is no argument title: the axes that are answered have it, as by .set_title\\(..\\)$"):
+        plot_ranges(ranges, title="x")
+
+
+def test_warnings_are_of_the_line_that_called_the_package(ranges):
+    geopandas = pytest.importorskip("geopandas")
+    reserve = geopandas.GeoSeries([geopandas.GeoSeries.from_xy([0], [0]).buffer(1)[0]], crs=32633)
+    for call in (lambda: home_range(FRAME), lambda: share_inside(ranges, reserve), lambda: plot_ranges(ranges, over=reserve)):
+        with warnings.catch_warnings(record=True) as heard:
+            warnings.simplefilter("always")
+            call()
+        assert heard and {own.filename for own in heard} == {__file__}

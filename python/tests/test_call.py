@@ -1,7 +1,9 @@
 """The call of homerange-split: arguments become its options, its refusals become errors, and what it says names arguments."""
 import datetime as clock
+import os
 import subprocess
 import sys
+import tempfile
 from pathlib import Path
 
 import numpy
@@ -52,8 +54,10 @@ def stub(tmp_path, monkeypatch):
     ({"every": clock.timedelta(seconds=2.5)}, "is no whole number of seconds: write such as '90min' or '5s'"),
     ({"since": 20240401}, "since=20240401 is neither a text such as '2024-05-01' nor a date"),
     ({"until": pandas.NaT}, "until=NaT is neither"), ({"until": numpy.datetime64("NaT")}, "is neither"), ({"since": 1.5}, "is neither"),
-    ({"lon": "a\0b"}, "lon is 'a.x00b', which the program cannot be told"),
-    ({"lon": "a\udce4"}, "which the program cannot be told: is it UTF-8"), ({"lon": "a" * 70_000}, "which the program cannot be told"),
+    ({"max_dop": numpy.True_}, "max_dop is .*True_? and"), ({"skip_lines": numpy.int64(-1)}, "skip_lines is .* and not a number from 0"),
+    ({"lon": "a\0b"}, "lon is 'a.x00b', which the program cannot be told, since it has a byte 0$"),
+    ({"lon": "a\udce4"}, "which the program cannot be told, since it is no text in UTF-8$"),
+    ({"lon": "a" * 70_000}, "which the program cannot be told, since it has more than 65536 bytes$"),
 ])
 def test_what_no_option_can_say_is_refused(stub, options, said):
     words = stub("exit 70")
@@ -74,6 +78,8 @@ def test_what_no_option_can_say_is_refused(stub, options, said):
     ({"na": numpy.float32(99.9)}, ["--na=99.9"]), ({"na": numpy.int64(0)}, ["--na=0"]),
     ({"argos_class": (3, 2.0, "B"), "fix_type": ["3D"]}, ["--argos-class=3,2,B", "--fix-type=3D"]),
     ({"max_dop": 5, "max_speed": 0.1}, ["--max-dop=5", "--max-speed=0.1"]),
+    ({"max_dop": numpy.float32(2.3), "max_speed": numpy.float16(1.1)}, ["--max-dop=2.3", "--max-speed=1.1"]),
+    ({"every": numpy.float32(0.1), "skip_lines": numpy.int64(2)}, ["--every=360s", "--skip-lines=2"]),
     ({"max_dop": "5.0", "max_speed": 1e-7}, ["--max-dop=5.0", "--max-speed=0.0000001"]),
     ({"max_dop": numpy.float64(2.5), "max_speed": 1e22}, ["--max-dop=2.5", "--max-speed=10000000000000000000000"]),
     ({"since": clock.date(2024, 5, 1), "until": clock.datetime(2024, 5, 31, 12)},
@@ -195,3 +201,20 @@ def test_a_file_that_is_called_as_standard_input_is_a_file(stub):
     with pytest.raises(homerange.ProgramError):
         read_fixes("-")
     assert words.read_text().splitlines()[-1] == "./-"
+
+
+def test_a_pipe_is_no_table():
+    call = [sys.executable, "-c", "import sys; from homerange import read_fixes; print(len(read_fixes(sys.argv[1], zone='33N')))", "/dev/stdin"]
+    own = {**os.environ, "PYTHONPATH": str(TOP / "python")}
+    table = "animal,second,easting,northing\n" + "".join(f"a,{at},{5000 * at},{7000 * at * at}\n" for at in range(4))
+    piped = subprocess.run(call, input=table, capture_output=True, text=True, env=own)
+    assert piped.stderr.endswith("FileError: /dev/stdin is a pipe, or a file without a name: write what it gives into a file\n")
+    with tempfile.TemporaryFile("w+") as file:
+        file.write(table)
+        file.seek(0)
+        unnamed = subprocess.run(call, stdin=file, capture_output=True, text=True, env=own)
+    assert unnamed.stderr.endswith("FileError: /dev/stdin is a pipe, or a file without a name: write what it gives into a file\n")
+    with tempfile.NamedTemporaryFile("w+") as file:
+        file.write(table)
+        file.seek(0)
+        assert subprocess.run(call, stdin=file, capture_output=True, text=True, env=own).stdout == "4\n"

@@ -33,6 +33,7 @@ def chosen(fixes):
     return {name: count for name, reason, count in left.values.tolist() if reason == "chosen"}
 
 
+CHANGED = "the fixes are not as they were read: what was left out before is neither in the folder nor on its page"
 SWAPPED, OTHER = {"a": "b", "b": "a"}, {"a": "c", "b": "d"}
 
 
@@ -58,6 +59,19 @@ def test_fixes_that_were_taken_away_are_counted(fixes, change, gone):
     assert chosen(own) == gone
     count = sum(gone.values())
     assert f"not chosen: {count} of 8 fixes that were read" in repr(own) if count else "not chosen" not in repr(own)
+
+
+def test_fixes_that_are_read_again_say_by_which_columns(splitter):
+    table = frame_of(a=SQUARE, b=APART).rename(columns={"easting": "utm_easting", "northing": "utm_northing"}).assign(dop=[1.0, 5.0] * 4)
+    fixes = read_fixes(table, zone="33N")
+    moved = read_fixes(fixes.assign(k=fixes["easting"] + 100), easting="k", northing="northing")
+    assert (moved["easting"] - fixes["easting"]).tolist() == [100] * 8
+    assert "read again by columns: animal, time, k, northing" in repr(moved) and "not read: dop" in repr(moved)
+    with told("^4 fixes have a DOP above 3: left out$"):
+        chosen = read_fixes(fixes, max_dop=3)
+    assert "not read" not in repr(chosen) and "read again" not in repr(chosen)
+    with pytest.raises(FrameError, match="^row 0: 'dop' was changed since this fix was read from it"):
+        home_range(chosen.assign(dop=9.0))
 
 
 def test_what_is_left_out_again_is_said_again(fixes):
@@ -136,9 +150,11 @@ def test_what_is_not_known_of_an_animal_stays_so(splitter, tmp_path):
         ranges = home_range(fixes)
         assert ranges.summary().set_index("animal")["left_out"].isna().to_dict() == {"b": False, name: True}
         assert ranges.overview().set_index("animal").loc["b", ["records", "left_coordinates"]].tolist() == [6, 2]
-        write_page(ranges, tmp_path / "page.html")
-        cells = re.findall('data-field="(records|left_coordinates)">([^<]*)<', (tmp_path / "page.html").read_text())
-        assert [cell for _, cell in cells] in (["6", "2", "–", "–"], ["–", "–", "6", "2"])
+        with told(CHANGED):
+            write_page(ranges, tmp_path / "page.html")
+        text = (tmp_path / "page.html").read_text()
+        cells = re.findall('data-animal="(.)".*data-field="records">([^<]*)<', text)
+        assert dict(cells) == {"b": "4", name: str(list(fixes["animal"]).count(name))} and f"“{CHANGED}”" in text
 
 
 def test_of_an_animal_with_another_name_all_is_known_where_nothing_was_left_out(fixes):

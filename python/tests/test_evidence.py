@@ -11,10 +11,9 @@ import pytest
 from exact import cloud
 from frames import frame_of, with_splitter
 
-from homerange import FrameError, HomeRangeInfo, HomeRangeNote, ProgramError, ReportError, home_range, read_fixes, read_report
+from homerange import FileError, FrameError, HomeRangeInfo, HomeRangeNote, ProgramError, ReportError, home_range, read_fixes, read_report
 from homerange.write import evidence
-from homerange.write.output import cell_text, shown_cell
-from homerange.program import find_program
+from homerange.program import find_program, program_of
 
 TOOLS = Path(__file__).parents[2] / "tools"
 POINTS = {"vixen": cloud(1, 40), "a/b": cloud(2, 31), "Žiga Ä": cloud(3, 12)}
@@ -43,6 +42,38 @@ def lines_of(folder):
     """The record of the tracks, and what made them."""
     lines = (folder / "tracks" / "split.txt").read_text("utf-8").splitlines()
     return [line for line in lines if not line.startswith("tool,")], [line for line in lines if line.startswith("tool,")]
+
+
+def test_some_tracks_of_a_split_are_no_evidence(ranges, tmp_path):
+    ranges.evidence(tmp_path / "whole")
+    tracks = tmp_path / "whole" / "tracks"
+    said = f"^{tracks}/(a_b|Žiga Ä).csv is of the same split, and was not named: take all tracks of the folder {tracks}$"
+    wish = evidence.Wish("95,100", None, program_of(find_program(None)))
+    with pytest.raises(FrameError, match=said):
+        evidence.write_evidence(tmp_path / "made", [tracks / "vixen.csv"], wish)
+    (tracks / "a_b.csv").unlink()
+    with pytest.raises(FrameError, match="^a_b.csv is not among the tracks, by split.txt beside them: split the export again$"):
+        evidence.write_evidence(tmp_path / "made", [tracks], wish)
+    for path in ("none", "none.csv"):
+        with pytest.raises(FileError, match=f"^{tmp_path / path}: there is no such file$"):
+            evidence.write_evidence(tmp_path / "made", [tmp_path / path], wish)
+    assert not (tmp_path / "made").exists()
+
+
+def test_a_folder_that_is_not_in_utf8(ranges, tmp_path):
+    pytest.importorskip("geopandas")
+    odd = Path(os.fsdecode(os.fsencode(tmp_path) + b"/M\xfcller"))
+    odd.mkdir()
+    for folder in (tmp_path, odd):
+        ranges.evidence(folder / "made")
+    own, plain = ({path.relative_to(folder): path.read_bytes() for path in (folder / "made").rglob("*") if path.is_file()} for folder in (odd, tmp_path))
+    assert {*own} == {*plain} and own[Path("made/ranges.gpkg")] == plain[Path("made/ranges.gpkg")]
+
+
+def test_the_folder_to_make_is_named_as_it_was(tmp_path):
+    for into, said in ((tmp_path / "none" / "made", f"{tmp_path}/none: there is no such folder"), (Path("/proc/made"), "/proc/made: [A-Z][a-z ]+")):
+        with pytest.raises(FileError, match=f"^{said}$"):
+            evidence.new_folder(into, Path.iterdir)
 
 
 def test_evidence_of_a_frame(ranges, tmp_path):
@@ -245,18 +276,10 @@ def test_a_name_is_no_formula_in_tables(tmp_path):
         titles, *rows = (tmp_path / "hand-in" / f"{name}.csv").read_text().splitlines()
         assert [row.split(",")[0] for row in rows] == cells
     assert titles.split(",") == ["fixes_of", *cells]
-    assert sorted(map(cell_text, cells)) == sorted(names)
     assert "animal,=1+1,fixes,9" in (tmp_path / "hand-in" / "report.txt").read_text().splitlines()
     assert "track,=1+1,9,9" in (tmp_path / "hand-in" / "tracks" / "split.txt").read_text()
     status, said = verify(tmp_path / "hand-in")
     assert status == 3 and "did not hold" not in said, said
-
-
-def test_each_text_has_one_cell():
-    texts = ["=1", "+1", "-1", "@a", "\ta", "\ra", "'", "''", "'=1", "a", "", " =1", "a'", "1", "ä="]
-    assert [*map(shown_cell, texts)] == [
-        "'=1", "'+1", "'-1", "'@a", "'\ta", "'\ra", "''", "'''", "''=1", "a", "", " =1", "a'", "1", "ä="]
-    assert [cell_text(shown_cell(text)) for text in texts] == texts
 
 
 def test_evidence_of_a_grid_of_its_own(tmp_path):

@@ -8,7 +8,7 @@ from pathlib import Path
 import numpy
 import pandas
 import pytest
-from frames import START, frame_of, noted, told
+from frames import START, frame_of, noted, quietly, told
 
 from homerange import FrameError, HomeRangeInfo, HomeRangeNote, home_range
 from homerange.read.fixes import Fixes
@@ -18,12 +18,6 @@ TOP = Path(__file__).parents[2]
 EXPORT = TOP / "examples" / "export.csv"
 HEAD = "individual-local-identifier,timestamp,utm-easting,utm-northing,utm-zone,visible,sensor-type\n"
 SQUARE = [(0, 0), (200, 0), (200, 200), (0, 200)]
-
-
-def quietly(call, *words, **options):
-    with warnings.catch_warnings():
-        warnings.simplefilter("ignore", HomeRangeNote)
-        return call(*words, **options)
 
 
 @pytest.fixture
@@ -143,15 +137,17 @@ def test_a_collar_is_read_by_its_preset(tmp_path, splitter):
     assert quietly(read_fixes, pandas.read_csv(path), from_="vectronic", max_dop=5)["easting"].tolist() == [562000] * 2
 
 
-@pytest.mark.parametrize("table, said", [
-    (5, "a int is neither a path nor a data frame"), ([1], "a list is neither"), (pandas.DataFrame(), "the data frame has no row of a fix"),
-    (frame_of(), "the data frame has no row"), (frame_of(a=SQUARE)["easting"], "a Series is neither"),
-    (type("Other", (), {"to_pandas": None})(), "a Other is neither .*: make it one, as by to_pandas"),
+@pytest.mark.parametrize("table, said, kind", [
+    (5, "a int is neither a path nor a data frame with a row for each fix: make it one, as by pandas.DataFrame", "option"),
+    ([1], "a list is neither", "option"), (pandas.DataFrame(), "the data frame has no row of a fix", "empty"),
+    (frame_of(), "the data frame has no row", "empty"), (frame_of(a=SQUARE)["easting"], "a Series is neither", "option"),
+    (type("Other", (), {"to_pandas": None})(), "a Other is neither .*: make it one, as by to_pandas", "option"),
 ])
-def test_what_is_no_table_is_refused(table, said):
-    with pytest.raises(FrameError, match=said) as fault:
-        read_fixes(table)
-    assert fault.value.kind == "empty"
+def test_what_is_no_table_is_refused(table, said, kind):
+    for call in (read_fixes, home_range):
+        with pytest.raises(FrameError, match=said) as fault:
+            call(table)
+        assert fault.value.kind == kind
 
 
 @pytest.mark.parametrize("title, options, kind", [
@@ -196,7 +192,7 @@ def test_moments_are_the_time_whatever_their_title_says(splitter, title, tz):
             fixes = read_fixes(frame, tz=tz, **options)
         assert fixes["time"].tolist() == frame[title].tolist() and str(fixes["time"].dt.tz) == (tz or "UTC")
         assert fixes[title].tolist() == frame[title].tolist() and "datetime" not in fixes
-    with pytest.raises(FrameError, match=f"^row 3: there is no {title}$"):
+    with pytest.raises(FrameError, match=rf"^row 3: there is no {title}: leave rows without one out, as by frame\[frame\['{title}'\][.]notna\(\)\]$"):
         read_fixes(frame.assign(**{title: frame[title].where(frame.index < 3)}), tz=tz, time=title)
     assert quietly(read_fixes, frame.rename(columns={title: "second"}), tz=tz)["time"].tolist() == frame[title].tolist()
     naive = frame.assign(**{title: frame[title].dt.tz_localize(None)})

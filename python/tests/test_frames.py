@@ -298,7 +298,26 @@ def test_fixes_that_were_changed_are_read_again_as_a_frame(change, said):
     assert found.summary().equals(frame.summary()) and found.corners() == frame.corners()
     with warnings.catch_warnings():
         warnings.simplefilter("error")
-        assert home_range(fixes.assign(note=1).reset_index(drop=True)).hectares("a") == 4  # as they were read: nothing is said
+        assert home_range(fixes.reset_index(drop=True)).hectares("a") == 4  # as they were read: nothing is said
+
+
+def heard(call, *words, **options):
+    """What a call answers, and what it says."""
+    with warnings.catch_warnings(record=True) as said:
+        warnings.simplefilter("always")
+        return call(*words, **options), [(own.category, str(own.message)) for own in said]
+
+
+def test_columns_that_were_added_to_fixes_are_said_as_not_read():
+    fixes, line = read_fixes(pandas.DataFrame({**PART, "sex": "f"})), "not read: exclude, keep"
+    added = fixes.assign(exclude=[0, 1, 0, 0], keep=True)
+    for own in (added, added.iloc[1:], added.set_index("keep")):
+        found, said = heard(home_range, own)
+        assert said == [(HomeRangeInfo, line)] and found.summary()["fixes"][0] == len(own) and line in found.notes
+    assert heard(home_range, added, by="exclude")[1] == [(HomeRangeInfo, "not read: keep"), (HomeRangeInfo, "ranges are by group: 2 of 1 animals")]
+    read, said = heard(read_fixes, added)
+    assert said == [(HomeRangeInfo, line)] and line in str(read) and heard(home_range, read)[1] == [] and read["keep"].all()
+    assert heard(home_range, fixes)[1] == [] and line not in str(added)
 
 
 @pytest.mark.parametrize("change, said", [
@@ -317,7 +336,7 @@ def test_fixes_keep_their_unit_zone_and_clock_when_they_are_read_again():
     found, again = home_range(fixes), home_range(fixes.sort_values("time"))
     assert found.summary().equals(again.summary()) and found.curve().equals(again.curve())
     assert (again.unit, again.crs, again.tz) == ("dm", "EPSG:32633", "Asia/Tokyo") and again.corners()["a"][0] == (500_000.3, 5_000_000)
-    other = home_range(fixes.iloc[1:].assign(time=fixes["time"].iloc[1:].dt.tz_convert("Europe/Ljubljana")), by=list("bbcdde"))
+    other = home_range(fixes.iloc[1:].assign(time=fixes["time"].iloc[1:].dt.tz_convert("Europe/Ljubljana"), group=list("bbcdde")), by="group")
     assert other.tz == "Europe/Ljubljana" and other.animals == ["a b", "a c", "b d", "b e"]
     for naive in (fixes["time"].dt.tz_localize(None), fixes["time"].dt.tz_convert(None)):  # by the clock of Tokyo, and of UTC
         with pytest.raises(FrameError, match="have no zone any more: keep those that read_fixes gave"):

@@ -107,6 +107,8 @@ PARAMETER["scale_factor",0.9996],PARAMETER["false_easting",500000],PARAMETER["fa
 
 
 @pytest.mark.parametrize("crs, said", [
+    (WKT.replace("Transverse_Mercator", "Of_Nobody"),
+     "the CRS own has no way to longitude and latitude that pyproj knows: name another one, such as by its code$"),
     ("+proj=tmerc +lon_0=15 +k=0.9996 +x_0=500000 +axis=wsu +datum=WGS84",
      "the CRS unknown has no way to longitude and latitude that pyproj knows: name another one, such as by its code$"),
     (WKT.replace('"Meter",1', '"Meter",0.3048'), "the CRS own is in Meter of 0.3048 m and not in metres: "),

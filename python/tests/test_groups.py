@@ -2,6 +2,7 @@
 what is shown of long work."""
 import io
 import os
+import warnings
 
 import numpy
 import pandas
@@ -71,6 +72,22 @@ def test_periods_go_by_the_clock_of_tz():
     assert local.summary()["group"].tolist() == ["2024-05", "2024-06"]
 
 
+@pytest.mark.parametrize("one, other, said", [
+    ("M", "M ", "groups 'M' and 'M ' differ in blanks or capitals alone: are they one?"),
+    ("M", "m", "groups 'M' and 'm' differ in blanks or capitals alone: are they one?"),
+    ("007", "7", "groups '007' and '7' differ in zeros alone: are they one?"),
+    ("V\u00b2", "V2", "groups 'V\u00b2' and 'V2' differ in the form of letters alone: are they one?"),
+    ("M", "-", "group '-' has 40 fixes: are they of no group?"), ("M", " ", "group ' ' has 40 fixes: are they of no group?"),
+    ("a/b", "a:b", "groups are not compared: groups 'a/b' and 'a:b' would both be named a_b"), ("M", "F", None)])
+def test_groups_that_may_be_one_or_none_are_asked(frame, one, other, said):
+    groups = pandas.Series([one, one, other, other] * 20, index=frame.index)
+    with warnings.catch_warnings(record=True) as heard:
+        warnings.simplefilter("always")
+        found = areas(home_range(frame, 100, by=groups))
+    assert found == hectares_of(frame, groups)
+    assert [str(own.message) for own in heard if "group" in str(own.message)] == [*([said] if said else []), "ranges are by group: 4 of 2 animals"]
+
+
 def test_ranges_by_a_series_which_goes_by_its_index(frame):
     sex = pandas.Series(range(80), index=range(80)).mod(3).map({0: "a", 1: "b", 2: "c"})
     found = areas(home_range(frame, 100, by=sex))
@@ -124,7 +141,10 @@ def test_rows_without_a_group(frame):
     (pandas.Series([1.5] * 80), "row .*: by has a group that is '1.5', a number that is not whole"),
     (lambda fixes: fixes[["animal", "time"]], r"by is a table, and a value for each row is wanted: take one column, or join several, as by"),
     (numpy.zeros((80, 2)), "by is a table, and a value for each row is wanted"),
-    (["a\tb"] * 80, "row .*: by has a group that is 'a.*b', with a control character")])
+    (["a\tb"] * 80, "row .*: by has a group that is 'a.*b', with a control character"),
+    (["\ud800"] * 80, "row .*: by has a group that is .*, which is no text in UTF-8: mend it"),
+    ([2.0 ** 60, 2.0 ** 60 + 4096] * 40, "row .*: by has a group that is '1.15.*e[+]18', a number that has lost digits: read its column as text"),
+    (["3E+14", "a"] * 40, "by: group '3E[+]14' is a number that has lost digits: read its column as text")])
 def test_what_is_refused(frame, by, said):
     with pytest.raises(FrameError, match=said):
         home_range(frame, by=by)
@@ -143,6 +163,11 @@ def test_periods_want_a_calendar(frame):
     seconds = frame_of(a=cloud(1, 3)).drop(columns="timestamp")
     for table in (seconds, seconds.assign(second=[1, 2, 3])):
         with pytest.raises(FrameError, match="by='year': seconds have no calendar"):
+            home_range(table, by="year")
+    far = frame_of(a=cloud(1, 3)).drop(columns="timestamp").assign(time=["2300-01-01", "2300-05-01", "2301-01-01"])
+    for table in (far, far.assign(time=["1971-01-01", "1972-01-01", "1972-01-02"])):
+        with pytest.raises(FrameError, match="seconds have no calendar, since none is of the years 1973 to 2262: read a table with date-times of "
+                           "these, or name groups by a column of text$"):
             home_range(table, by="year")
     early = frame_of(a=cloud(1, 3)).drop(columns="timestamp").assign(time=pandas.to_datetime(["2024-05-01", "1970-01-01", "2024-05-02"]))
     with pytest.raises(FrameError, match="by='month': row .* is not of the years 1973 to 2262, so that the seconds of no row have"):
@@ -208,7 +233,7 @@ def test_so_many_processors_are_taken(tmp_path, jobs):
 
 @pytest.mark.parametrize("jobs", [0, -1, 1.5, "2", True])
 def test_jobs_are_a_whole_number(jobs):
-    with pytest.raises(FrameError, match="jobs=.* are not jobs from 1 to 1024"):
+    with pytest.raises(FrameError, match="jobs=.* is no whole number from 1 to 1024"):
         home_range(frame_of(a=cloud(1, 20)), jobs=jobs)
 
 
@@ -254,9 +279,52 @@ def test_values_for_the_records_of_a_file_are_refused(tmp_path):
     path = tmp_path / "fixes.csv"
     path.write_text("animal,second,easting,northing\na,0,1,2\nb,0,3,4\na,60,5,6\n", "utf-8")
     for by in ([1, 2, 1], pandas.Series(list("xyx"))):
-        with pytest.raises(FrameError, match="^by goes by rows, and fixes of a file stand in another order: read it before by read_fixes"):
+        with pytest.raises(FrameError, match="another order: read the file before, as by pandas.read_csv, and hand in the data frame"):
             home_range(path, by=by)
+        assert home_range(pandas.read_csv(path), by=by).animals == [f"a {by[0]}", f"b {by[1]}"]
     assert home_range(path, by=lambda fixes: fixes["easting"] > 2).groups
+
+
+def refuses_order(fixes, by):
+    """Refuses values of which nobody knows the fix, and takes them as a column, as it says."""
+    with pytest.raises(FrameError, match="^by: it is not known which of the fixes each value is of.* make the values a column of that table "
+                                         "before read_fixes, or, .* as by fixes.assign\\(group=..\\), and name it, as by by='group'$"):
+        home_range(fixes, by=by)
+    group = by.to_numpy() if isinstance(by, pandas.Series) else by
+    with warnings.catch_warnings():
+        warnings.simplefilter("ignore")  # fixes that stand in another order are sorted
+        return areas(home_range(fixes.assign(group=group), 100, by="group"))
+
+
+def test_values_beside_fixes_go_by_what_is_known_of_their_order(frame):
+    """Rows of the frame take turns, and its fixes stand by animals: values of the one, in its order, are none of the other."""
+    table = frame.assign(sex=["f", "f", "m"] * 26 + ["f", "m"]).reset_index(drop=True)
+    wanted, fixes = hectares_of(table, table["sex"]), read_fixes(table)
+    for by in (fixes["sex"], fixes["sex"].tolist(), fixes["sex"].to_numpy(), fixes["sex"].astype("category").array, table["sex"],
+               fixes["sex"] + "", table["sex"].sample(frac=1, random_state=1)):
+        assert areas(home_range(fixes, 100, by=by)) == wanted
+    for by in ([*table["sex"]], table["sex"].to_numpy(), tuple(table["sex"]), table["sex"].set_axis([*range(100, 180)])):
+        refuses_order(fixes, by)
+    assert refuses_order(fixes, (fixes["sex"] + "!").tolist()) == {(name, f"{sex}!"): own for (name, sex), own in wanted.items()}
+    # Labels that are no longer those of the table, or never were.
+    refuses_order(fixes.reset_index(drop=True), table["sex"])
+    refuses_order(read_fixes(table.rename_axis("row")).drop(columns="row"), table["sex"])
+    own = fixes.reset_index(drop=True)
+    assert areas(home_range(own, 100, by=own["sex"] + "")) == wanted
+
+
+def test_values_in_the_order_of_a_table_are_taken_where_its_fixes_have_it(frame, tmp_path):
+    table = frame.sort_values(["animal", "timestamp"]).reset_index(drop=True)
+    sex, fixes = ["f", "m", "m", "m"] * 20, read_fixes(table)
+    assert areas(home_range(fixes, 100, by=sex)) == areas(home_range(read_fixes(fixes), 100, by=sex)) == hectares_of(table, sex)
+    local = fixes.assign(time=fixes["time"].dt.tz_convert("Asia/Tokyo"))
+    assert areas(home_range(local, 100, by=sex)) == hectares_of(table, sex)
+    for chosen in (fixes.iloc[1:], fixes.iloc[::-1], pandas.concat([fixes.iloc[:40], read_fixes(table.iloc[40:])]), read_fixes(fixes.iloc[1:])):
+        refuses_order(chosen, sex[:len(chosen)])
+    path = tmp_path / "fixes.csv"
+    table.to_csv(path, index=False)
+    refuses_order(read_fixes(path), sex)
+    refuses_order(read_fixes(path), pandas.read_csv(path)["northing"].mod(3))
 
 
 def test_a_title_is_that_of_the_column_of_the_frame(frame):
@@ -286,3 +354,21 @@ def test_columns_of_a_file_are_no_groups(frame, tmp_path):
     assert home_range(path, by="animal").animals == ["fox fox", "otter otter"]
     with pytest.raises(FrameError, match="^by: there is no column 'age', and it is none of 'year'"):
         home_range(path, by="age")
+
+
+def test_series_that_are_counted_from_zero_go_by_no_guess():
+    """Fixes that take turns in a table stand by animals, so that a Series of them without their index is of other fixes by its labels."""
+    clock = pandas.date_range("2024-05-01", periods=8, freq="3h", tz="UTC")
+    table = pandas.DataFrame({"animal": [*"ab"] * 8, "time": clock.repeat(2), "easting": [*range(0, 160, 10)], "northing": [0, 9, 5, 40] * 4})
+
+    def night(fixes):
+        return pandas.Series((fixes["time"].dt.hour < 6).to_numpy())
+    with pytest.raises(FrameError, match="^by: the function's values are a Series of another index than that of the fixes: give them that, as by "):
+        home_range(table, by=night)
+    for by in (lambda fixes: night(fixes).to_numpy(), lambda fixes: pandas.Series(night(fixes).to_numpy(), index=fixes.index)):
+        ranges = home_range(table, by=by)
+        assert {name: len(ranges.fixes(name)) for name in ranges.animals} == {"a true": 2, "a false": 6, "b true": 2, "b false": 6}
+    fixes = read_fixes(table)
+    for by in (night(fixes), night(table)):
+        with pytest.raises(FrameError, match="^by: it is not known which of the fixes each value is of"):
+            home_range(fixes, by=by)

@@ -1,7 +1,9 @@
 """The GeoPackage of ranges: its layers as sqlite3 and geopandas read them, against polygons by hand and the fixes themselves."""
+import os
 import sqlite3
 import struct
 import time
+import warnings
 from contextlib import closing
 from pathlib import Path
 
@@ -43,7 +45,7 @@ def test_polygons_of_all_levels_stand_in_one_layer(herd, tmp_path):
         assert {(round(x), round(y)) for x, y in row.geometry.exterior.coords} == {*hull(kept)}
 
 
-@pytest.mark.parametrize("text", ["+proj=utm +zone=33 +datum=WGS84 +units=m", "+proj=laea +lat_0=46 +lon_0=15 +units=m"])
+@pytest.mark.parametrize("text", ["+proj=utm +zone=33 +datum=WGS84 +units=m", "+proj=laea +lat_0=46 +lon_0=15 +x_0=500000 +y_0=5000000 +units=m"])
 def test_a_definition_has_no_code_in_the_layers(tmp_path, text):
     """Whatever writes them: pyogrio would write the code of the first, EPSG:32633, and fiona writes none."""
     from homerange.write.layers import placed
@@ -167,6 +169,40 @@ def test_seconds_without_a_date_are_whole_numbers(tmp_path, start):
         assert {types[title] for title in titles} == {"INTEGER"}
 
 
+def test_groups_without_an_area_are_named_with_their_group(tmp_path):
+    ranges = home_range(frame_of(fox=SQUARE), 100, by=["x", "x", "x", "y"])
+    with pytest.warns(homerange.HomeRangeNote) as notes:
+        write_layers(ranges, tmp_path / "ranges.gpkg")
+    assert noted(notes) == ["not in ranges.gpkg, since they have no area at 100 %: fox y"]
+
+
+def test_layers_are_written_over_their_like_and_over_another_file_if_it_is_said(herd, tmp_path):
+    ranges, path, other = home_range(frame_of(**herd), 100), tmp_path / "ranges.gpkg", tmp_path / "other.gpkg"
+    remedy = "name another file, or say overwrite=True, which removes what is in it$"
+    path.touch()
+    with warnings.catch_warnings():
+        warnings.simplefilter("ignore", homerange.HomeRangeNote)
+        for _ in range(2):
+            write_layers(ranges, path)
+        whole = path.read_bytes()
+        roads = geopandas.GeoDataFrame({"name": ["A"]}, geometry=geopandas.points_from_xy([1], [2]), crs=32633)
+        for layer, said in (("roads", "and has a layer 'roads'"), ("fixes", "and is no file of write_layers")):
+            other.unlink(missing_ok=True)
+            roads.to_file(other, driver="GPKG", layer=layer)
+            with pytest.raises(FileError, match=f"other.gpkg is there, {said}: {remedy}"):
+                write_layers(ranges, other)
+            assert geopandas.read_file(other, layer=layer)["name"].tolist() == ["A"]
+        roads.to_file(path, driver="GPKG", layer="roads")
+        with pytest.raises(FileError, match=f"ranges.gpkg is there, and has a layer 'roads': {remedy}"):
+            write_layers(ranges, path)
+        other.write_bytes(b"animal,second\n")
+        with pytest.raises(FileError, match=f"other.gpkg is there, and is no file of write_layers: {remedy}"):
+            write_layers(ranges, other)
+        for file in (path, other):
+            write_layers(ranges, file, overwrite=True)
+            assert file.read_bytes() == whole
+
+
 def test_a_file_that_cannot_be_written_is_refused(herd, tmp_path, monkeypatch):
     ranges = home_range(frame_of(**herd), 100)
     with pytest.raises(FileError, match="^/proc/ranges.gpkg: [A-Z][A-Za-z ]+$"):
@@ -178,3 +214,15 @@ def test_a_file_that_cannot_be_written_is_refused(herd, tmp_path, monkeypatch):
     monkeypatch.setattr("homerange.write.layers.put_layers", full)
     with pytest.raises(FileError, match="ranges.gpkg: database or disk is full$"):
         write_layers(ranges, tmp_path / "ranges.gpkg")
+
+
+def test_a_path_that_is_not_in_utf8(herd, tmp_path):
+    ranges = home_range(frame_of(**herd), 100)
+    folder = Path(os.fsdecode(os.fsencode(tmp_path) + b"/M\xfcller"))
+    folder.mkdir()
+    for path in (folder / "ranges.gpkg", tmp_path / "plain.gpkg"):
+        with pytest.warns(homerange.HomeRangeNote, match="no area"):
+            write_layers(ranges, path)
+    assert (folder / "ranges.gpkg").read_bytes() == (tmp_path / "plain.gpkg").read_bytes()
+    with pytest.raises(FileError, match="there is no such folder"):
+        write_layers(ranges, folder / "none" / "ranges.gpkg")

@@ -1,18 +1,20 @@
 """The page of ranges: its numbers, read back and compared with hulls and rules that are computed here; what is escaped; and
 that nothing outside it is asked for."""
 import datetime
+import hashlib
 import statistics
 import subprocess
 from decimal import Decimal
 from pathlib import Path
 
+import pandas
 import pytest
 from exact import area2, cloud, covers, hull, nearest
-from frames import START, frame_of, told
+from frames import START, frame_of, quietly, told
 from pages import DASH, Page, area, day, length, rounded, share
 from test_growth import SPLIT, by_definition
 
-from homerange import HomeRangeNote, home_range, read_report, write_page
+from homerange import FileError, FrameError, HomeRangeNote, home_range, read_fixes, read_report, write_page
 from homerange.program import find_program
 
 HERD = {"vixen": cloud(1, 120), "old boar": cloud(2, 75, 300, 562500), "pup": cloud(3, 9, 5), "NA": [(562001, 5134002)]}
@@ -96,13 +98,36 @@ BAD = '</title><script>alert("x")</script>&amp;\'\u202e\U0001f98a ' + "long " * 
 def test_what_a_user_typed_is_text(tmp_path):
     names = [BAD.strip(), "<b>&", "{{title}}", "ذئب", "A" * 300]
     animals = {name: cloud(number, 20) for number, name in enumerate(names)}
-    page = page_of(home_range(frame_of(**animals)), tmp_path, title=BAD, study="{{maps}}", species="<img src=x>", by="a\nb\x00")
+    ranges = home_range(frame_of(**animals))
+    own = [ranges.tracks.names.get(name, name) for name in names]
+    with told(f"^animal '{'A' * 300}' is named {own[4]}$"):
+        page = page_of(ranges, tmp_path, title=BAD, study="{{maps}}", species="<img src=x>", by="a\nb\x01")
     assert "script" not in page.tags and "img" not in page.tags and "b" not in page.order
     assert page.all("title") == page.all("h1") == [BAD.replace("\u202e", "\\u202e")]
-    assert [*page.animals] == names
-    assert {name for pair in page.overlaps for name in pair} == {*names}
-    for text in ("Study: {{maps}}", "Species: <img src=x>", "By: a\\x0ab\\x00"):
+    assert sorted(page.animals) == sorted(own) and own[1:4] == ["_b_&", "{{title}}", "ذئب"]
+    assert {name for pair in page.overlaps for name in pair} == {*own}
+    for text in ("Study: {{maps}}", "Species: <img src=x>", "By: a\\x0ab\\x01"):
         assert text in page.text
+
+
+@pytest.mark.parametrize("text", ["a\0b", "\udcff", "fox \ud83d"])
+@pytest.mark.parametrize("name", ["title", "study", "species", "by"])
+def test_what_no_page_can_have_is_refused(tmp_path, name, text):
+    ranges = home_range(frame_of(a=HERD["pup"]))
+    for call in (lambda: write_page(ranges, tmp_path / "page.html", **{name: text}), lambda: ranges.evidence(tmp_path / "e", **{name: text})):
+        with pytest.raises(FrameError, match=f"^{name}=.* is no text in UTF-8 without a zero byte: mend it$"):
+            call()
+    assert [*tmp_path.iterdir()] == []
+
+
+def test_of_files_without_a_record_it_is_not_known_what_was_left_out(tmp_path):
+    frame = frame_of(a=cloud(6, 40), b=cloud(7, 30)).assign(visible=[True] * 30 + [False] * 10 + [True] * 30)
+    with told("10 outliers: left out"):
+        home_range(frame).evidence(tmp_path / "hand-in")
+    ranges = read_report(tmp_path / "hand-in/report.txt", files=[tmp_path / f"hand-in/tracks/{name}.csv" for name in "ab"])
+    assert ranges.summary()["left_out"].isna().all() and ranges.overview()["records"].isna().all()
+    page = page_of(ranges, tmp_path)
+    assert page.animals["a"]["records"] == DASH and "How many fixes were left out is not known." in page.text
 
 
 def test_nothing_outside_is_asked_for(page, tmp_path):
@@ -116,10 +141,30 @@ def test_nothing_outside_is_asked_for(page, tmp_path):
     assert "default-src 'none'" in text
 
 
+def test_a_page_is_written_over_its_like_and_over_another_file_if_it_is_said(tmp_path):
+    ranges, path = home_range(frame_of(**HERD)), tmp_path / "report.html"
+    path.touch()
+    write_page(ranges, path)
+    write_page(ranges, path, title="<title>", made=datetime.date(2024, 12, 1))
+    page = path.read_bytes()
+    for other in (b'<!DOCTYPE html>\n<html lang="en">\n<title>mine</title>\n', b"PK\0\4"):
+        path.write_bytes(other)
+        with pytest.raises(FileError, match="report.html is there, and is no page of write_page: name another file, or say overwrite=True$"):
+            write_page(ranges, path)
+        assert path.read_bytes() == other
+    write_page(ranges, path, title="<title>", made=datetime.date(2024, 12, 1), overwrite=True)
+    assert path.read_bytes() == page
+    for name in ("fixes.csv", "page", "html", ".html"):
+        with pytest.raises(FrameError, match="^path=.*: a name that ends in .html or .htm is wanted$"):
+            write_page(ranges, tmp_path / name)
+    with pytest.raises(FrameError, match="^overwrite=1 is neither True nor False$"):
+        write_page(ranges, path, overwrite=1)
+
+
 def test_the_day_of_making_and_the_same_bytes(tmp_path):
     ranges = home_range(frame_of(**HERD))
     texts = []
-    for name in "ab":
+    for name in ("a.html", "b.HTM"):
         write_page(ranges, tmp_path / name, made=datetime.date(2024, 12, 1))
         texts.append((tmp_path / name).read_bytes())
     assert texts[0] == texts[1] and b"Made on 1 Dec 2024 with homerange" in texts[0]
@@ -136,10 +181,25 @@ def test_fixes_left_out_of_a_frame(tmp_path):
     assert "“10 outliers: left out”" in page.text
 
 
+def test_an_export_that_is_called_as_the_text_of_a_frame(tmp_path):
+    path = tmp_path / "fixes.csv"
+    frame_of(a=cloud(6, 40), b=cloud(7, 30)).to_csv(path, index=False)
+    checksum = hashlib.sha256(path.read_bytes()).hexdigest()
+    fixes = quietly(read_fixes, path)
+    for of_file in (home_range(path), home_range(fixes)):
+        page = page_of(of_file, tmp_path)
+        assert page.fields["export_sha256"] == checksum and "fixes.csv" in page.text
+    # Those of the same rows as a frame, and of fixes of the file that were changed since, have no export that anybody has.
+    for of_frame in (home_range(pandas.read_csv(path)), quietly(home_range, fixes.iloc[1:])):
+        page = quietly(page_of, of_frame, tmp_path)
+        assert page.fields["export_sha256"] == "none: the tracks were made of a data frame" and "fixes.csv" not in page.text
+
+
 def test_a_page_of_a_split(tmp_path):
     lines = [f"a,{SECOND + 60 * at},{100 + at * at},{200 + at},{int(at not in (2, 3))}" for at in range(6)]
     (tmp_path / "a.csv").write_text("\n".join(["animal,second,easting,northing,use", *lines, ""]))
-    (tmp_path / "split.txt").write_text(SPLIT)
+    checksum = hashlib.sha256((tmp_path / "a.csv").read_bytes()).hexdigest()
+    (tmp_path / "split.txt").write_text(SPLIT.replace("track,a,6,4", f"track,a,6,4,{checksum}") + "tool,homerange-split 1.0.0\n")
     report = subprocess.run([find_program(None), tmp_path / "a.csv"], capture_output=True, check=True).stdout
     (tmp_path / "report.txt").write_bytes(report)
     ranges = read_report(tmp_path / "report.txt", files=[tmp_path / "a.csv"], record=tmp_path / "split.txt")
@@ -162,10 +222,10 @@ def test_a_report_alone_has_what_is_known(tmp_path):
     frame.write_text("animal,second,easting,northing\n" + "".join(f"a,{n},{n * n},{n}\n" for n in range(50)))
     report = subprocess.run([find_program(None), frame], capture_output=True, check=True).stdout
     (tmp_path / "report.txt").write_bytes(report)
-    page = page_of(read_report(tmp_path / "report.txt", program="/nothing"), tmp_path)
+    page = page_of(read_report(tmp_path / "report.txt"), tmp_path)
     assert page.animals["a"]["records"] == DASH
     assert "reference system not known" in page.text and "How many fixes were left out is not known." in page.text
-    assert page.fields["program_sha256"] == "not known, since the program was not found"
+    assert page.fields["report_sha256"] == hashlib.sha256(report).hexdigest()
     assert page.text.rstrip().endswith("python3 tools/verify.py FOLDER")
 
 

@@ -1,48 +1,26 @@
-"""The map and the curves of the page: where things are drawn, that numbers cover no other, and what is drawn apart."""
+"""The map and the curves of the page: where things are drawn, and what is drawn apart."""
 import re
-from math import floor
 
 import pytest
 from exact import cloud, hull
 from frames import frame_of
 
 from homerange import FrameError, home_range, write_page
-from homerange.write.drawing import counts_of, step_of
-from homerange.write.page import in_order
-from homerange.write.page_curves import Axes, Curve, steps
-from homerange.write.page_map import WIDTH, Frame, Numbers, Shape, maps, outlines, overlaps, thinned
-
-SQUARE = [(0.0, 0.0), (2000.0, 0.0), (2000.0, 2000.0), (0.0, 2000.0)]
 
 
-def square(number, east, north, side):
-    return Shape(number, [[(east + side * x, north + side * y) for x, y in ((0, 0), (1, 0), (1, 1), (0, 1))]], [])
+def square(east, north, side):
+    return [(east + side * x, north + side * y) for x, y in ((0, 0), (1, 0), (1, 1), (0, 1))]
+
+
+def drawings(folder, animals, **options):
+    """The maps of the page of some animals."""
+    write_page(home_range(frame_of(**animals), 100, zone="33N", **options), folder / "page.html")
+    return re.findall('<svg class="map.*?\n</svg>.*?\n</svg>', (folder / "page.html").read_text("utf-8"), re.S)
 
 
 def places(path):
     """The places of a path of lines."""
     return [(float(x), float(y)) for x, y in re.findall(r"(-?[0-9.]+) (-?[0-9.]+)", path)]
-
-
-@pytest.mark.parametrize("span, most, size", [
-    (10, 5, 2), (11, 5, 5), (10, 1, 10), (1, 4, 0.5), (0.9, 4, 0.5), (4_000_000, 5, 1_000_000), (0.003, 3, 0.001)])
-def test_steps_of_a_grid(span, most, size):
-    assert step_of(span, most).size == size
-
-
-def test_lines_of_a_grid_have_whole_labels():
-    step = step_of(3.2, 5)
-    assert [step.text(count) for count in counts_of(step, 562_000.3, 562_003.4)] == ["562,001", "562,002", "562,003"]
-    step = step_of(0.4, 4)
-    assert [step.text(count) for count in counts_of(step, 9.95, 10.3)] == ["10.0", "10.1", "10.2", "10.3"]
-
-
-def test_a_square_is_a_square_with_the_north_above():
-    frame = Frame((0, 0, 2000, 1000), 100, WIDTH, 100, 400)
-    (path,) = (re.search(' d="(.*)"', text)[1] for text in outlines([Shape(1, [SQUARE], [])], frame))
-    (west, south), (east, _), (_, north), _ = places(path)
-    assert east - west == pytest.approx(south - north, abs=0.11) == pytest.approx(2000 * frame.scale, abs=0.11)
-    assert frame.at((frame.west, frame.south)) == (0, frame.height)
 
 
 def bar_of(drawing):
@@ -52,82 +30,39 @@ def bar_of(drawing):
     return length / float(number.replace(",", "")) / (1000 if unit == "km" else 1)
 
 
-@pytest.mark.parametrize("side", [3.0, 55.0, 1000.0, 2500.0, 700_000.0])
-def test_the_bar_of_scale_and_the_grid_are_those_of_the_polygon(side):
-    drawn = maps([square(1, 562_000.0, 5_134_000.0, side)], [], "system", 1.0).drawings[0]
+@pytest.mark.parametrize("side", [100, 1000, 2500, 90_000])
+def test_the_bar_of_scale_and_the_grid_are_those_of_the_polygon(tmp_path, side):
+    (drawn,) = drawings(tmp_path, {"a": square(462_000, 5_134_000, side)})
     outline = places(re.search('class="l0 c0" d="(.*?)"', drawn)[1])
     assert (outline[1][0] - outline[0][0]) / side == pytest.approx(bar_of(drawn), rel=0.01)
     labels = [(float(x), float(text.replace(",", "")))
               for x, text in re.findall('<text x="([0-9.]+)" y="[0-9.]+" text-anchor="middle">([0-9.,]+)</text>', drawn)]
     (x, east), (other_x, other_east), *_ = labels
     assert (other_x - x) / (other_east - east) == pytest.approx(bar_of(drawn), rel=0.01)
-    assert outline[0][0] + 15 == pytest.approx(x + (562_000 - east) * bar_of(drawn), abs=2)
+    assert outline[0][0] + 15 == pytest.approx(x + (462_000 - east) * bar_of(drawn), abs=2)
 
 
-def test_numbers_cover_no_other():
-    points = cloud(3, 150, 5000)
-    frame = Frame((556_000, 5_128_000, 568_000, 5_140_000), 100, WIDTH, 200, 600)
-    numbers = Numbers(frame, 7.5)
-    for number, (east, north) in enumerate(points, 1):
-        numbers.put(square(number, float(east), float(north), 100))
-    assert len(numbers.taken) == 150
-    for at, box in enumerate(numbers.taken):
-        assert not any(overlaps(box, other) for other in numbers.taken[:at])
-        assert 0 <= box[0] and box[2] <= frame.width and 0 <= box[1] and box[3] <= frame.height
-
-
-def test_fixes_that_cover_each_other_are_drawn_once():
-    frame = Frame((0, 0, 1000, 1000), 100, WIDTH, 200, 600)
-    fixes = [(float(n % 10), float(n // 10)) for n in range(100)] * 50 + [(900.0, 900.0)]
-    assert 1 < len(thinned(fixes, frame, 1.5)) < 40
-    text = maps([Shape(1, [SQUARE], [(x * 1.0, y * 1.0) for x in range(0, 2000, 5) for y in range(0, 2000, 10)])], [], "", 1)
-    assert text.drawings[0].count("h0") <= 15_000
-
-
-@pytest.mark.parametrize("cell", [1.0, 1.5, 7.59375])
-def test_of_fixes_in_a_cell_the_first_is_drawn(cell):
-    frame = Frame((562_000.1, 5_134_000.2, 563_000.7, 5_135_000.9), 100, WIDTH, 200, 600)
-    fixes = [(east / 7, north / 7) for east, north in cloud(4, 3000, 3500, 7 * 562_500, 7 * 5_134_500)]
-    fixes.append((frame.west - 20, frame.south - 20))
-    found = {}
-    for fix in fixes:
-        x, y = frame.at(fix)
-        found.setdefault((floor(x / cell), floor(y / cell)), (x, y))
-    assert thinned(fixes, frame, cell) == [*found.values()]
-    assert 100 < len(found) < 3000
-    assert thinned([], frame, cell) == []
-
-
-def test_what_is_far_is_drawn_apart():
-    near = [square(1, 0.0, 0.0, 3000.0), square(2, 2000.0, 2000.0, 3000.0)]
-    assert len(maps(near, [], "", 100).drawings) == 1
-    found = maps([*near, square(3, 400_000.0, 0.0, 2000.0)], [], "", 100)
-    assert [re.search('aria-label="(.*?)"', text)[1] for text in found.drawings] == [
+def test_what_is_far_is_drawn_apart(tmp_path):
+    near = {"a": square(400_000, 5_134_000, 3000), "b": square(402_000, 5_136_000, 3000)}
+    assert len(drawings(tmp_path, near)) == 1
+    found = drawings(tmp_path, {**near, "c": square(600_000, 5_134_000, 1000)})
+    assert [re.search('aria-label="(.*?)"', text)[1] for text in found] == [
         "Map of all ranges", "Map of the ranges 1, 2", "Map of the ranges 3"]
-    assert found.unseen == []
-    scattered = [square(number, 50_000.0 * number, 0.0, 20.0) for number in range(1, 12)]
-    found = maps(scattered, [], "", 100)
-    assert (len(found.drawings), found.unseen) == (1, [*range(1, 12)])
+    assert "Too small to be seen" not in (tmp_path / "page.html").read_text("utf-8")
+    scattered = {f"{number:02}": square(300_000 + 30_000 * number, 5_134_000, 20) for number in range(1, 12)}
+    assert len(drawings(tmp_path, scattered)) == 1
+    numbers = ", ".join(map(str, range(1, 12)))
+    assert f"Too small to be seen beside the others: {numbers}." in (tmp_path / "page.html").read_text("utf-8")
 
 
-def test_one_place_has_a_map():
-    drawn = maps([Shape(1, [[(562_000.0, 5_134_000.0)]] * 3, [(562_000.0, 5_134_000.0)])], [], "", 100)
-    assert drawn.unseen == [] and drawn.drawings[0].count("flat c0") == 3
+def test_one_place_has_a_map(tmp_path):
+    (drawn,) = drawings(tmp_path, {"a": [(562_000, 5_134_000)]})
+    assert drawn.count("flat c0") == 1 and drawn.count("h0") == 1
 
 
-def test_the_steps_of_a_curve():
-    curve = Curve(1, [0, 0, 50, 50, 100], 5)
-    axes = Axes(curve, 100, 60, True)
-    assert axes.y(100) == 6 and axes.y(0) == axes.bottom and axes.x(5) == 90
-    x = [f"{axes.x(n):.1f}" for n in range(6)]
-    assert steps(curve, axes) == f"M{x[1]} {axes.bottom:.1f}H{x[3]}V{axes.y(50):.1f}H{x[5]}V6.0H{x[5]}"
-    many = Curve(1, list(range(100_000)), 95_000)
-    assert len(steps(many, Axes(many, 100, 60, True))) < 20_000
-
-
-def test_a_ring_begins_in_the_west_whichever_way_it_went():
-    ring = [(2, 0), (2, 2), (0, 2), (0, 0), (2, 0)]
-    assert in_order(ring) == in_order(ring[::-1]) == [(0, 0), (0, 2), (2, 2), (2, 0)]
+def test_of_many_fixes_some_are_drawn(tmp_path):
+    (drawn,) = drawings(tmp_path, {"a": cloud(4, 20_000, 3000)})
+    assert 1000 < drawn.count("h0") <= 15_000
 
 
 def test_a_boundary_is_drawn(tmp_path):

@@ -1,6 +1,5 @@
 """Pictures: what is drawn, that nothing covers it, and that an animal looks the same in each."""
 import re
-from pathlib import Path
 
 import pytest
 from exact import cloud, hull
@@ -10,7 +9,7 @@ matplotlib = pytest.importorskip("matplotlib")
 matplotlib.use("Agg")
 from matplotlib import pyplot  # noqa: E402
 
-from homerange import FrameError, home_range, plot_curve, plot_ranges  # noqa: E402
+from homerange import FrameError, home_range, plot_curve, plot_ranges, write_page  # noqa: E402
 from homerange.write.plot_style import COLOURS  # noqa: E402
 
 HERD = {"vixen": cloud(1, 60), "_boar": cloud(2, 40), "a$b$": cloud(3, 30), "NA": cloud(4, 1)}
@@ -155,9 +154,9 @@ def test_an_animal_has_its_number_and_colour_in_each_picture():
     assert lines(panel)[0].get_color() == whole[2].get_color()
 
 
-def test_colours_are_those_of_the_page():
-    page = Path(__file__).parents[1] / "homerange" / "page.html"
-    assert re.findall(r"\.c[0-6] \{ color: (#[0-9a-f]{6}); \}", page.read_text("utf-8")) == [*COLOURS]
+def test_colours_are_those_of_the_page(tmp_path):
+    write_page(herd(1), tmp_path / "page.html")
+    assert re.findall(r"\.c[0-6] \{ color: (#[0-9a-f]{6}); \}", (tmp_path / "page.html").read_text("utf-8")) == [*COLOURS]
 
 
 def test_colours_of_ones_own():
@@ -215,6 +214,25 @@ def test_a_boundary_is_drawn_and_named():
     assert labels(axes) == ["Kočevje", "wolf, 40,000 ha"]
     assert lines(axes)[0].get_xydata().min() == -2
     assert axes.get_xlim()[0] <= -2
+
+
+def test_what_a_boundary_is_called():
+    geometry = pytest.importorskip("shapely.geometry")
+    ranges, over = home_range(frame_of(wolf=SQUARE)), geometry.box(-2000, -2000, 9000, 9000)
+    assert labels(plot_ranges(ranges, over=over))[0] == labels(plot_ranges(ranges, over=over, over_name=""))[0] == "boundary"
+    for wrong, said in (({"over_name": "x"}, "over_name is the name of no boundary: give its shape as over"),
+                        ({"over": over, "over_name": 5}, "over_name=5 is no text"), ({"over_name": 5}, "over_name=5 is no text"),
+                        ({"over": over, "over_name": "x", "facets": True}, "over_name stands in a key, which facets do not have: leave it out")):
+        with pytest.raises(FrameError, match=f"^{re.escape(said)}$"):
+            plot_ranges(ranges, **wrong)
+
+
+def test_panels_have_the_boundary():
+    geometry = pytest.importorskip("shapely.geometry")
+    for panel in plot_ranges(herd(2), over=geometry.box(-30, -20, 9000, 9000), facets=True):
+        corners = lines(panel)[0].get_xydata()
+        scale = 1 if panel.get_xlim()[1] > 100 else 1000
+        assert (corners.min(axis=0) * scale).tolist() == [-30, -20] and (corners.max(axis=0) * scale).tolist() == [9000, 9000]
 
 
 def test_a_reference_system_is_named_and_not_written_out():

@@ -96,8 +96,15 @@ def test_overlaps_of_a_level_are_those_of_the_fixes_that_it_keeps(herd):
                 inside = sum(covers(polygon, point) if len(polygon) > 2 else point in polygon for point in points)
                 assert counts.loc[name, other] == inside
                 assert shares.loc[name, other] == inside / len(points)
+            assert counts.columns.name == shares.columns.name == f"in_range_of_{level}" and counts.index.name == "fixes_of"
     with pytest.raises(FrameError, match="level 60 is none"):
         herd.overlap(level=60)
+
+
+def test_overlaps_say_that_they_are_of_all_fixes_if_no_level_is_named():
+    found = home_range(frame_of(a=SQUARE, b=SQUARE), 50)
+    assert found.overlap().columns.name == "in_range_of_100" and "in_range_of_100" in str(found.overlap())
+    assert found.overlap(level=50.0).columns.name == "in_range_of_50"
 
 
 def test_a_line_covers_what_lies_on_it():
@@ -217,7 +224,7 @@ def test_fixes_that_became_more_are_said():
     fixes = read_fixes(frame_of(a=SQUARE, b=SQUARE))
     with pytest.warns(HomeRangeNote, match="^4 records of a have the second of the one before, and 4 its place: kept$") as said:
         home_range(repeated(fixes))
-    assert len(said) == 1
+    assert [str(own.message) for own in said][1:] == ["not read: collar"]
     with pytest.warns(HomeRangeNote) as said:
         home_range(pandas.concat([fixes, fixes]))
     assert [str(one.message) for one in said] == [line for name in "ab" for line in (
@@ -257,7 +264,7 @@ def test_columns_that_were_added_are_refused_as_in_any_table(title):
 
 
 def test_columns_that_were_there_are_not_judged_again():
-    fixes = read_fixes(frame_of(a=SQUARE).assign(**{"argos-lc": [*"3213"], "zone": "33N"}), argos_class="3,2,1")
+    fixes = read_fixes(frame_of(a=MIDDLE).assign(**{"argos-lc": [*"3213"], "zone": "33N"}), argos_class="3,2,1", zone="33N")
     assert len(home_range(fixes.iloc[1:]).fixes("a")) == 3
     with pytest.raises(FrameError, match="^column [0-9] 'epsg' has several values"):
         home_range(fixes.assign(epsg=[32633, 32634] * 2))

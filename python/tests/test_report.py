@@ -316,7 +316,7 @@ def test_what_the_record_says_otherwise_is_refused(folder, tmp_path):
 def test_what_is_no_system_of_a_report(files):
     report = report_of(files)
     for crs in (4326, 2263, 3857):
-        with pytest.raises(FrameError, match="^(the CRS|areas in the CRS) .*: name that of the coordinates of the report, which are in metres$"):
+        with pytest.raises(FrameError, match="^(the CRS|areas in the CRS) .*: name that of the coordinates of the report, which are eastings and northings in metres$"):
             read_report(report, crs=crs)
     for none in (None, b"x", 5):
         with pytest.raises(FrameError, match=r" are not several paths, such as \['fox.csv'\]: leave files out where there are none$"):
@@ -328,8 +328,20 @@ def test_a_folder_and_an_empty_path_are_no_file(files, tmp_path):
     for call in (lambda path: read_report(path), lambda path: read_report(report, files=[path]), lambda path: read_report(report, record=path)):
         with pytest.raises(FileError, match=f"^{tmp_path} is a folder, and a file is wanted$"):
             call(tmp_path)
+        with pytest.raises(FileError, match="^/dev/null is a pipe or a device, and a file is wanted$"):
+            call("/dev/null")
+        with pytest.raises(FileError, match="^none: there is no such file$"):
+            call("none")
         with pytest.raises(FrameError, match="='' is no path: it is empty$"):
             call("")
     for call in (homerange.home_range, homerange.read_fixes, read_report(report).evidence):
         with pytest.raises(FrameError, match="='' is no path: it is empty$"):
             call("")
+
+
+@pytest.mark.parametrize("coding", ["utf-16", "utf-16-le", "utf-16-be"])
+def test_a_report_in_utf16_is_said_to_be_none_in_utf8(tmp_path, coding):
+    path = tmp_path / "report.txt"
+    path.write_bytes("animal,fox,fixes,1\nend,1\n".encode(coding))
+    with pytest.raises(homerange.ReportError, match="report.txt is no text in UTF-8: it has a byte 0, as files in UTF-16 have: write it in UTF-8$"):
+        homerange.read_report(path)

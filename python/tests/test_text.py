@@ -1,4 +1,7 @@
 """The text of a data frame: its columns and titles, the levels of its index, points, time zones, and what cannot be text."""
+from decimal import Decimal
+
+import numpy
 import pandas
 import pytest
 from frames import frame_of
@@ -30,6 +33,12 @@ def test_all_columns_are_written(tmp_path):
     ([123.456, 1, None, -0.125], ["123.4560", "1", "", "-0.1250"]), (["123.456"], ["123.456"]), ([123.456, 0.5], ["123.456", "0.5"]),
     ([123.456, 1000], ["123.456", "1000"]), ([999.999], ["999.9990"]), ([1, 2], ["1", "2"]), ([1.0, 2.0], ["1", "2"]), ([0.0625], ["0.0625"]),
     (pandas.Series([123.456, None, 2.0], dtype=object), ["123.4560", "", "2"]), (pandas.Series([123.456, "x"], dtype=object), ["123.456", "x"]),
+    (pandas.Series([Decimal("123.456"), None, Decimal(2)], dtype=object), ["123.4560", "", "2"]),
+    (pandas.Series([Decimal("123.456"), 0.125, 7, numpy.float32(0.123)], dtype=object), ["123.4560", "0.1250", "7", "0.1230"]),
+    (pandas.Series([Decimal("123.456"), Decimal("0.5")], dtype=object), ["123.456", "0.5"]),
+    (pandas.Series([Decimal("123.456"), Decimal("Infinity")], dtype=object), ["123.456", "inf"]),
+    (pandas.Series([123.456, True], dtype=object), ["123.456", "true"]), (pandas.Series([Decimal(1), 2], dtype=object), ["1", "2"]),
+    (pandas.Categorical([Decimal("123.456"), None]), ["123.4560", ""]),
     (pandas.Categorical([123.456, None, 0.125]), ["123.4560", "", "0.1250"]), (pandas.Categorical(["123.456"]), ["123.456"]),
     (pandas.array([123.456], dtype="float32"), ["123.4560"]), (pandas.array([123.456, None], dtype="Float64"), ["123.4560", ""])])
 def test_decimals_are_not_groups_of_thousands(tmp_path, monkeypatch, values, wanted):
@@ -99,6 +108,8 @@ def test_the_zone_of_times_is_told(tmp_path):
     ({"columns": ["a\tb", "timestamp", "x", "y"]}, "columns", "whose sign would be taken for"),
     ({"columns": ["animal", "timestamp", "x\udc80", "y"]}, "text", "the title 'x.*' is no text in UTF-8"),
     ({"cell": "fox\ud800"}, "text", "animal is 'fox.*', which is no text in UTF-8"),
+    ({"cell": "fox\0"}, "text", "animal is 'fox.x00', which has a byte 0: mend it$"),
+    ({"columns": ["animal", "timestamp", "x\0", "y"]}, "text", "the title 'x.x00' has a byte 0: mend it$"),
 ])
 def test_what_is_no_text_is_refused(tmp_path, change, kind, said):
     frame = frame_of(a=SQUARE).astype({"animal": object})

@@ -220,7 +220,8 @@ class RangesAlgorithm(QgsProcessingAlgorithm):
         if page:
             title = self.parameterAsString(parameters, "TITLE", context) or None
             asked.package.write_page(
-                ranges, page, title=title, reserve=boundary, reserve_name=asked.bounds and asked.bounds.sourceName())
+                ranges, page, title=title, reserve=boundary, reserve_name=asked.bounds and asked.bounds.sourceName(),
+                overwrite=True)  # the dialog asks before
             made["PAGE"] = page
         return made
 

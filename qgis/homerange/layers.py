@@ -28,8 +28,17 @@ def utm_of(source, project):
     return f"EPSG:{(32600 if middle.y() >= 0 else 32700) + zone}"
 
 
+def ways_of_axes(source):
+    """Where the axes of a layer go, if not east and north. Wants pyproj."""
+    from pyproj import CRS
+
+    from .package.read.systems import turned_axes
+
+    return turned_axes(CRS.from_user_input(crs_of(source)))
+
+
 def check_layer(source, project):
-    """Refuses a layer that is not of points in a plane in metres."""
+    """Refuses a layer that is not of points in a plane of eastings and northings in metres."""
     if QgsWkbTypes.geometryType(source.wkbType()) != QgsWkbTypes.PointGeometry:
         raise LayerFault("The layer has no points: of GPX take the layer track_points, and of lines run Extract vertices first")
     crs = source.sourceCrs()
@@ -38,6 +47,8 @@ def check_layer(source, project):
     name, units = crs.authid() or "a reference system of its own", crs.mapUnits()
     odd = None if units == QgsUnitTypes.DistanceMeters else f"The layer is in {QgsUnitTypes.toString(units)} ({name}) and not in metres"
     odd = f"Areas in Web Mercator ({name}) grow away from the equator" if name == "EPSG:3857" else odd
+    ways = ways_of_axes(source) if odd is None else []
+    odd = f"The axes of the layer ({name}) go {' and '.join(ways)}, and not east and north" if ways else odd
     if odd is not None:
         raise LayerFault(f"{odd}: run Reproject layer first, to the UTM zone of the fixes ({utm_of(source, project)}) or another plane "
                          "in metres")

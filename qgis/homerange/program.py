@@ -27,11 +27,11 @@ def load():
 
 
 def program():
-    """The path of the package's own program, which is held to its checksum, as homerange-split beside it is. What QGIS
-    unpacks has no right to run."""
-    from .package.program import OWN, SPLIT, check_own
+    """The path of the package's own program, which is held to its checksum, as those beside it are. What QGIS unpacks has no right
+    to run."""
+    from .package.program import OWN, PAGE, SPLIT, check_own
 
-    for path in (OWN, OWN.with_name(SPLIT)):
+    for path in (OWN, OWN.with_name(SPLIT), OWN.with_name(PAGE)):
         if path.is_file() and not os.access(path, os.X_OK):
             path.chmod(0o755)
         check_own(path)

@@ -33,13 +33,12 @@ digits_before <- function(bytes, ends, widths) {
 # The text of a file of so many bytes in UTF-8, marked as such unless it is ASCII, whose lines end in LF; what is no text is refused.
 text_of_file <- function(path, size) {
   text <- if (size > 0) suppressWarnings(readChar(path, size, useBytes = TRUE)) else ""
-  has_zero <- nchar(text, "bytes") < size
+  if (nchar(text, "bytes") < size) refuse("text", path, " is no text in UTF-8: it has a byte 0, as files in UTF-16 have: write it in UTF-8")
   if (grepl("[^\\x01-\\x0c\\x0e-\\x7f]", text, perl = TRUE, useBytes = TRUE)) {
     if (!validUTF8(text)) refuse("text", path, " is no text in UTF-8")
     text <- gsub("\r\n?", "\n", text, perl = TRUE, useBytes = TRUE)
     Encoding(text) <- "UTF-8"
   }
-  if (has_zero) refuse("text", path, " is no text: it has a byte 0")
   text
 }
 

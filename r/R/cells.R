@@ -245,7 +245,8 @@ part_of_days <- function(days, behind) {
   kinds <- found$kinds
   is_near <- is.finite(kinds) & abs(kinds) <= most_days
   texts <- ifelse(is.na(kinds), "", ifelse(kinds > 0, "inf", "-inf"))
-  texts[is_near] <- paste0(format(.Date(kinds[is_near])), behind)
+  day <- as.POSIXlt(.Date(kinds[is_near]))
+  texts[is_near] <- sprintf("%04.0f-%02.0f-%02.0f%s", day$year + 1900, day$mon + 1, day$mday, behind)  # format has years below 1000 short
   part_of_kinds(texts, found$place)
 }
 

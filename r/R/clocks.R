@@ -43,7 +43,10 @@ with_days <- function(columns, given) {
   columns <- lapply(columns, function(column) if (inherits(column, "POSIXlt")) as.POSIXct(column) else column)
   is_joined <- grepl(",", paste(given[["time"]], collapse = ","), fixed = TRUE)
   if (!is_joined && !any(vapply(columns, has_clocks, NA))) return(columns)
-  lapply(columns, function(column) if (is_of_days(column, given$tz)) as.Date(column, tz = zone_of_times(column)) else column)
+  lapply(columns, function(column) {
+    zone <- zone_of_days(column, given$tz)
+    if (is.null(zone)) column else as.Date(column, tz = zone)
+  })
 }
 
 # Whether a column has clocks, by its class or by the first of its texts.
@@ -53,14 +56,17 @@ has_clocks <- function(column) {
   has_class_of_clocks(column) && !is.null(seconds_of_clocks(column))
 }
 
-# Whether moments are all midnights, of UTC or of the zone by whose clock times are read.
-is_of_days <- function(column, tz = NULL) {
-  if (!inherits(column, "POSIXct") || !is.null(seconds_of_clocks(column))) return(FALSE)
-  is_read <- zone_of_times(column) %in% c("UTC", if (is.null(tz)) OlsonNames() else tz)
-  is_read && are_midnights(first_value(column)) && are_midnights(column)
+# The zone in which moments are all midnights, if that is UTC or the zone by whose clock times are read; NULL where they are no days.
+# Days that R makes moments of have no zone, and are midnights of UTC.
+zone_of_days <- function(column, tz = NULL) {
+  if (!inherits(column, "POSIXct") || !is.null(seconds_of_clocks(column))) return(NULL)
+  for (zone in unique(c(zone_of_times(column), if (!has_zone(column)) "UTC"))) {
+    is_read <- zone %in% c("UTC", if (is.null(tz)) OlsonNames() else tz)
+    if (is_read && are_midnights(first_value(column), zone) && are_midnights(column, zone)) return(zone)
+  }
 }
 
-# Whether moments are all midnights of their own zone.
-are_midnights <- function(times) {
-  all(unlist(unclass(as.POSIXlt(times, tz = zone_of_times(times)))[c("hour", "min", "sec")]) == 0, na.rm = TRUE)
+# Whether moments are all midnights of a zone.
+are_midnights <- function(times, zone) {
+  all(unlist(unclass(as.POSIXlt(times, tz = zone))[c("hour", "min", "sec")]) == 0, na.rm = TRUE)
 }

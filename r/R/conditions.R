@@ -35,11 +35,35 @@ tell_note <- function(line, kind) {
 }
 
 # Has numbers written by digits, with a point, and text read as it is, until the function in this frame ends, whatever the options
-# of the session are. The arguments of that function are evaluated before.
+# of the session are. The arguments of that function are evaluated before, and looked at.
 local_options <- function(..., frame = parent.frame()) {
   list(...)
+  check_parts(frame, names(formals(sys.function(sys.parent()))))
   old <- options(scipen = 15, OutDec = ".", digits = 7, encoding = "native.enc")
   do.call(on.exit, list(bquote(options(.(old))), add = TRUE), envir = frame)
+}
+
+# Refuses an argument of the function in a frame that was written as a part of something, such as x$season, and is NULL, as it is
+# where there is no such part.
+check_parts <- function(frame, names) {
+  names <- setdiff(names, "...")
+  written <- lapply(names, function(name) eval(call("substitute", as.name(name)), frame))
+  has_dots <- exists("...", frame, inherits = FALSE)
+  further <- if (has_dots) as.list(eval(quote(substitute(list(...))), frame))[-1]
+  written <- c(`names<-`(written, names), further)
+  is_part <- vapply(written, is_part_of_other, NA)
+  values <- c(mget(names, frame, inherits = FALSE), if (has_dots) eval(quote(list(...)), frame))
+  odd <- which(is_part & vapply(values, is.null, NA))[1]
+  if (is.na(odd)) return(invisible())
+  part <- substr(paste(deparse(written[[odd]]), collapse = " "), 1, 60)
+  refuse("option", names(written)[odd], ": ", part, " is NULL: is it misspelt? leave ", names(written)[odd], " out where none is meant")
+}
+
+# Whether an expression names a part of something, as x$season, x[["season"]] and x$season[1:9] do.
+is_part_of_other <- function(expression) {
+  if (!is.call(expression) || !is.symbol(expression[[1]])) return(FALSE)
+  own <- as.character(expression[[1]])
+  if (own %in% c("(", "[")) is_part_of_other(expression[[2]]) else own %in% c("$", "[[", "@")
 }
 
 # Refuses what is neither TRUE nor FALSE.

@@ -9,8 +9,9 @@ homerange_evidence <- function(x, folder, ...) {
   local_options(x, folder, ...)
   check_ranges(x)
   check_whole(x, "evidence")
-  odd <- setdiff(names_of_arguments(...), names(formals(fill_evidence))[-(1:3)])
-  if (length(odd)) refuse("option", "there is no argument ", if (nzchar(odd[1])) odd[1] else "without a name")
+  known <- names(formals(fill_evidence))[-(1:3)]
+  odd <- setdiff(names_of_arguments(...), known)
+  if (length(odd)) refuse_argument(odd[1], known)
   if (isTRUE(x$is_part)) refuse("option", "x: evidence is made of the ranges of one call or one report, with all their animals")
   if (is.null(x$fixes)) refuse("option", "evidence needs the fixes: read_report(file, files = ..)")
   check_definition(x)
@@ -61,34 +62,23 @@ local_plain <- function(frame = parent.frame()) {
 
 fill_evidence <- function(x, folder, program, title = NULL, study = NULL, species = NULL, by = NULL, reserve = NULL,
                           reserve_name = NULL, tz = NULL, made = NULL) {
-  check_typed(list(title = title, study = study, species = species, by = by, reserve_name = reserve_name), made, reserve)
+  check_typed(list(title = title, study = study, species = species, by = by, boundary = reserve_name), made, reserve)
   zone <- zone_of_page(x, tz)
-  rings <- if (!is.null(reserve)) rings_in_order(rings_of_boundary(boundary_of(x, reserve)))
+  rings <- rings_given(x, reserve)
   words <- list(title = title, study = study, species = species, by = by, day = if (!is.null(made)) format(made, "%Y-%m-%d"),
                 boundary = if (!is.null(rings)) if (is_given(reserve_name)) reserve_name else "boundary")
-  names <- if (is.null(x$files)) put_frame(x, folder) else put_files(x, file.path(folder, "tracks"))
+  names <- put_tracks(x, folder)
   record <- record_in(file.path(folder, "tracks"))
   now <- Sys.time()
   read <- report_of_folder(x, folder, names, program, record, c(words, clock = zone), now)
   found <- read$ranges
-  for (line in renames_of(x$animals$animal, names)) tell_note(line, "renamed")
-  write_summary(found, file.path(folder, "summary.csv"))
-  write_animals(found, file.path(folder, "animals.csv"))
-  write_overlaps(found, file.path(folder, "overlaps.csv"))
+  tell_of_tracks(x, names)
   if (has_sf()) write_layers(found, file.path(folder, "ranges.gpkg"))
-  if (!is.null(rings)) write_lines(file.path(folder, "boundary.csv"), lines_of_rings(rings))
-  day <- as.POSIXlt(if (is.null(made)) as.POSIXlt(now, tz = zone) else made)
-  put_page(found, file.path(folder, "report.html"), words, rings, zone, day, program)
+  write_rings(rings, folder)
+  make_page(folder, options_of_page(x, c(words, clock = zone), day_of_page(made, now, zone), program, record))
   sums <- c(read$sums, checksums_of(folder, but = c("tracks/*", "report.txt")))
   sums <- sums[order(names(sums), method = "radix")]
   write_lines(file.path(folder, "SHA256SUMS"), paste0(sums, "  ", names(sums)))
-}
-
-# The boundary of a map: each ring by its number, with its points in metres.
-lines_of_rings <- function(rings) {
-  c("ring,easting,northing", unlist(lapply(seq_along(rings), function(number) {
-    sprintf("%d,%.3f,%.3f", number, rings[[number]][, 1], rings[[number]][, 2])
-  })))
 }
 
 # Has the program report of the tracks in a folder, and writes the record of the run; answers the ranges of the report, and the
@@ -111,40 +101,6 @@ report_of_folder <- function(x, folder, names, program, record, words, now) {
   if (file.exists(log)) file.copy(log, folder)
   write_lines(file.path(folder, "evidence.txt"), about_lines(x, program, c(call, "--", files), record, words, now))
   list(ranges = made, sums = after)
-}
-
-# Puts the fixes of ranges into the folder's tracks, a file for each animal, with the program's record of how they were made.
-# Answers the names that animals have in files.
-put_frame <- function(x, folder) {
-  tracks <- file.path(folder, "tracks")
-  names <- names_of_files(x)
-  write_tracks(x$fixes, tracks, names)
-  write_lines(file.path(tracks, "split.txt"), x$read$record)
-  if (isTRUE(x$read$is_again)) {
-    tell_note("the fixes are not as they were read: what was left out before is neither in the folder nor on its page", "left_out")
-  }
-  names
-}
-
-# Copies the files that were read into a folder, with their record: the one that was named, or the one beside them.
-put_files <- function(x, folder) {
-  files <- x$files
-  names <- basename(files)
-  twice <- which(duplicated(names))
-  if (length(twice)) refuse("name", files[match(names[twice[1]], names)], " and ", files[twice[1]], " have the same name")
-  odd <- files[!endsWith(files, ".csv")]
-  if (length(odd)) refuse("name", odd[1], " is no track: its name does not end in .csv")
-  bad <- names[grepl("\\", names, fixed = TRUE) | one_line(names) != names]
-  if (length(bad)) refuse("name", bad[1], " has a backslash, a line end or a control character in its name: rename it")
-  folders <- unique(normalizePath(dirname(files)))
-  records <- file.path(folders, "split.txt")
-  records <- if (is.null(x$record_file)) records[file.exists(records)] else x$record_file
-  if (is.null(x$record_file) && length(records) && length(folders) > 1) {
-    refuse("text", "the tracks are of several folders of which one has a record of its split: take those of one")
-  }
-  if (!all(file.copy(files, folder))) refuse("file", "a file of fixes cannot be copied into ", folder)
-  if (length(records)) file.copy(records, file.path(folder, "split.txt"))
-  x$animals$animal
 }
 
 # The files of a folder's tracks that have a used fix, by their names within the folder in order of bytes.

@@ -7,7 +7,7 @@ check_path <- function(path) {
   if (!is_text(path) || !nzchar(path)) refuse("option", argument_text("path", path), " is no path")
   path <- expanded(path)
   if (dir.exists(path)) refuse("file", path, " is a folder")
-  if (!dir.exists(dirname(path))) refuse("file", path, ": there is no such folder")
+  if (!dir.exists(dirname(path))) refuse("file", dirname(path), ": there is no such folder")
 }
 
 # Refuses what is no file that is there.
@@ -55,6 +55,14 @@ path_for_program <- function(path, folder) {
   link
 }
 
+# Whether there is a file with something in it.
+is_full <- function(path) file.exists(path) && !dir.exists(path) && isTRUE(file.size(path) > 0)
+
+# Refuses to write over a file that the package did not make.
+refuse_other <- function(path, what) {
+  refuse("file", path, " is there, and ", what, ": name another file, or say overwrite = TRUE")
+}
+
 # Whether a path names something, if a link to nothing.
 is_there <- function(path) file.exists(path) || !is.na(Sys.readlink(path)) && nzchar(Sys.readlink(path))
 
@@ -81,14 +89,20 @@ write_track <- function(path, records, stock, name, rows) {
   }
 }
 
+check_sha256sum <- function() {
+  if (!nzchar(Sys.which("sha256sum"))) refuse("program", "there is no program sha256sum on PATH, which makes checksums: put it there")
+}
+
 # The checksum of a file: by R itself from 4.5 on, which hands a command no name that is of no letters of the locale.
 checksum_of <- function(path) {
   own <- get0("sha256sum", asNamespace("tools"))
+  if (is.null(own)) check_sha256sum()
   if (is.null(own)) substr(system2("sha256sum", c("--", shQuote(path)), stdout = TRUE), 1, 64) else unname(own(path))
 }
 
 # The checksums of the files in a folder but for some, by their names within it.
 checksums_of <- function(folder, but = character()) {
+  check_sha256sum()
   unwanted <- paste(sprintf("! -path %s", shQuote(file.path(".", but))), collapse = " ")
   lines <- system(paste("cd", shQuote(folder), "&& find . -type f", unwanted, "-exec sha256sum -- {} +"), intern = TRUE)
   Encoding(lines) <- "UTF-8"

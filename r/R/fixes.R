@@ -34,13 +34,13 @@ as.data.frame.homerange_fixes <- function(x, row.names = NULL, optional = FALSE,
 }
 
 # Whether a table is of fixes of which is known how they were read. Other packages may have taken the class away, and not this.
-is_fixes <- function(x) is_made_of_fixes(x) && has_columns(x) && !inherits(x, "sf")
+is_fixes <- function(x) !is.null(facts_of(x)) && has_columns(x) && !inherits(x, "sf")
 
 is_made_of_fixes <- function(x) inherits(x, "homerange_fixes") || !is.null(facts_of(x))
 
 # A table of fixes, of whatever class it is by now, as fixes; so are points that still lie where they are.
 as_fixes <- function(x) {
-  is_at_points <- inherits(x, "sf") && is_made_of_fixes(x) && has_columns(x) && has_own_points(x)
+  is_at_points <- inherits(x, "sf") && !is.null(facts_of(x)) && has_columns(x) && has_own_points(x)
   if (!is_fixes(x) && !is_at_points) return(x)
   columns <- with_zone(columns_of(x), facts_of(x)$tz)
   new_fixes(structure(columns, class = "data.frame", row.names = attr(x, "row.names")), facts_of(x))
@@ -107,7 +107,8 @@ joined_columns <- function(columns) {
 # Refuses fixes that cannot be bound to others.
 check_bound <- function(one, first) {
   if (!is_fixes(one)) {
-    refuse("option", "fixes are bound to fixes that read_fixes has read, and not to ", what_it_is(one))
+    refuse("option", "fixes are bound to fixes that read_fixes has read, and not to ",
+           if (is_made_of_fixes(one)) "such of which it is no longer known how they were read" else what_it_is(one))
   }
   own <- facts_of(one)
   facts <- facts_of(first)
@@ -133,6 +134,12 @@ is_same_fact <- function(one, other) {
 
 fact_text <- function(fact) if (is.null(fact)) "not known" else if (inherits(fact, "crs")) text_of_crs(fact) else fact
 
+# The records of the first readings of fixes, as texts: those of fixes that were read again are those of what these were before.
+records_of <- function(facts) {
+  if (!is.null(facts$records)) return(facts$records)
+  unlist(lapply(readings_of(facts), function(own) if (is.null(own$records)) paste(own$record, collapse = "\n") else own$records))
+}
+
 # What is known of fixes that are bound, which may be bound themselves. Those of one reading are what they were.
 bound_facts <- function(facts) {
   facts <- unlist(lapply(facts, readings_of), recursive = FALSE)
@@ -141,7 +148,7 @@ bound_facts <- function(facts) {
   if (length(facts) == 1) return(found)
   found$parts <- facts
   found$notes <- unlist(lapply(facts, `[[`, "notes"))
-  found[c("record", "files", "checksum")] <- NULL  # there is none of all
+  found[c("record", "files", "checksum", "records", "is_in_order")] <- NULL  # there is none of all
   found$titles <- Reduce(intersect, lapply(facts, `[[`, "titles"))
   found$seen <- bound_seen(lapply(facts, `[[`, "seen"))
   counts <- unlist(lapply(facts, `[[`, "fixes"))
@@ -204,7 +211,7 @@ summary.homerange_fixes <- function(object, ...) {
   rows <- split(seq_len(nrow(object)), factor(object$animal, animals))
   times <- object[[column_of_time(object)]]
   at <- function(pick) vapply(rows, function(own) own[c(pick(xtfrm(times[own])), NA)[1]], 1L)
-  since <- left_since(object)
+  since <- if (is_fixes(object)) left_since(object) else list(unknown = animals)
   counts <- vapply(animals, function(animal) sum(since$left$fixes[since$left$animal == animal]), 0)
   list2DF(list(animal = animals, fixes = unname(lengths(rows)), first = times[at(which.min)], last = times[at(which.max)],
                left_out = known_counts(counts, animals, since$unknown)))
@@ -214,25 +221,34 @@ column_of_time <- function(fixes) if ("time" %in% names(fixes)) "time" else "sec
 
 # What was taken, and then the first rows, or so many.
 print.homerange_fixes <- function(x, ..., n = 6) {
+  local_options(x, n)
   if (!is_number(n) || n < 0) refuse("option", argument_text("n", n), " is no number of rows")
-  if (!has_columns(x)) {
+  if (!is_fixes(as_fixes(x))) {
     print(as.data.frame.homerange_fixes(x), ...)
     return(invisible(x))
   }
   writeLines(format(x))
-  print(utils::head(as.data.frame.homerange_fixes(as_fixes(x)), n), ...)
+  print(with_whole_sides(utils::head(as.data.frame.homerange_fixes(as_fixes(x)), n)), ...)
   more <- nrow(x) - floor(n)
   if (more > 0) writeLines(paste0("... and ", count_of(more, "more fix", "more fixes")))
   invisible(x)
 }
 
-# The lines that are printed above the rows.
+# Rows whose eastings and northings are texts, which no print rounds.
+with_whole_sides <- function(rows) {
+  is_side <- names(rows) %in% c("easting", "northing") & vapply(rows, is_plain_number, NA)
+  rows[is_side] <- lapply(rows[is_side], format, digits = 15)
+  rows
+}
+
+# The lines that are printed above the rows; of what is no longer known how it was read those of a data frame.
 format.homerange_fixes <- function(x, ...) {
   local_options()
   x <- as_fixes(x)
+  if (!is_fixes(x)) return(format(as.data.frame.homerange_fixes(x), ...))
   facts <- facts_of(x)
   asked <- grepl("[?]$", facts$notes)
-  read <- unique(grep("^(columns: |not read: )", facts$notes, value = TRUE))
+  read <- unique(grep("^(columns: |not read: |read again by columns: )", facts$notes, value = TRUE))
   c(paste0(count_of(nrow(x), "fix", "fixes"), " of ", count_of(length(unique(x$animal)), "animal"), span_text(x)),
     box_text(x), system_text(facts), unique(sub("; [0-9]+ animals, box .*", "", sub("^columns", "read", read))),
     left_text(left_since(x)$left), facts$notes[asked])

@@ -44,6 +44,13 @@ convex_ring <- function(easting, northing) {
   ring[(first + seq_len(number) - 2) %% number + 1, , drop = FALSE]
 }
 
+# Whether at each of three or more corners of a ring the way turns left.
+is_convex <- function(ring) {
+  to <- next_rows(ring) - ring
+  from <- next_rows(to)
+  nrow(ring) < 3 || all(is_left_turn(to[, 1], to[, 2], from[, 1], from[, 2]))
+}
+
 # The doubled area of a ring, as the double that is nearest where none has it.
 doubled_area <- function(ring) {
   from <- sweep(ring, 2, ring[1, ])

@@ -12,8 +12,9 @@ periods <- list(
   }
 )
 
-# Fixes in the order of animals, groups and times, by names that say animal and group; and what these names mean.
-grouped_fixes <- function(whole, labels) {
+# Fixes in the order of animals, groups and times, by names that say animal and group; what these names mean; and what is said of
+# groups, behind what is asked of them.
+grouped_fixes <- function(whole, labels, questions) {
   fixes <- whole$fixes
   group <- labels[fixes$row]
   key <- paste(match(fixes$animal, unique(fixes$animal)), match(group, unique(group)))
@@ -30,8 +31,24 @@ grouped_fixes <- function(whole, labels) {
   fixes$animal <- known$animal[place]
   fixes <- fixes[order(place, method = "radix"), ]
   row.names(fixes) <- NULL
-  note <- paste0("ranges are by group: ", nrow(known), " of ", count_of(length(unique(known$of)), "animal"))
-  list(shift = whole$shift, fixes = fixes, groups = known, note = note)
+  note <- paste0("ranges are by group: ", nrow(known), " of ", length(unique(known$of)), " animals")
+  list(shift = whole$shift, fixes = fixes, groups = known, notes = c(questions, note))
+}
+
+# What the program asks of groups that may be one, or none, as it does of animals by their names. What it refuses of names, but for
+# numbers that have lost digits, is none of groups.
+questions_of_groups <- function(labels) {
+  split <- split_of_names(unique(labels))
+  if (!is.null(split$refusal)) {
+    what <- sub("^animals ", "groups ", sub("^the name of animal ", "group ", sub("(.*): .*", "\\1", split$refusal$text)))
+    if (grepl(lost_digits, what, fixed = TRUE)) refuse("name", "by: ", what, ": ", help_for_digits)
+    return(paste("groups are not compared:", what))
+  }
+  alike <- grep("^animals '.* alone: are they one[?]$", split$record$said, value = TRUE)
+  form <- "^animal '(.*)' has [0-9]+ records: are they of no animal[?]$"
+  none <- sub(form, "\\1", grep(form, split$record$said, value = TRUE))
+  counts <- vapply(none, function(name) sum(labels == name), 0L)
+  c(sub("^animals ", "groups ", alike), sprintf("group '%s' has %d fixes: are they of no group?", none, counts))
 }
 
 # The group of each fix. Where a frame was read, values are those of its rows.
@@ -51,6 +68,32 @@ labels_of <- function(fixes, by, frame = NULL, is_file = FALSE) {
     if (!is.null(frame)) return(check_labels(text_of_groups(values_of(by, frame$number, "rows"))[frame$rows], frame$rows))
   }
   check_labels(text_of_groups(values_of(by, nrow(fixes), "fixes")), seq_len(nrow(fixes)))
+}
+
+# Refuses values for each of fixes that were read, where these may be values of the rows of their table: the program sorts rows, and
+# leaves some out. Sure are values of which the call says that they are made of these fixes, and such as a column of these has.
+check_order <- function(x, by, is_made) {
+  fixes <- as_fixes(x)
+  if (inherits(by, "POSIXlt")) by <- as.POSIXct(by)
+  if (is.null(by) || is_made || !is.atomic(by) || is_text(by) || !is_fixes(fixes) || length(by) != nrow(fixes)) return(invisible())
+  is_column <- vapply(as.list(fixes), function(column) identical(as.vector(column), as.vector(by)), NA)
+  if (any(is_column) || are_rows_of_table(fixes)) return(invisible())
+  refuse("option", "by: it is not known which of the fixes each value is of, since these may stand in another order than the rows that ",
+         "were read, or be fewer: make the values a column of that table before read_fixes, or, if they were made of these fixes, ",
+         "a column of these, as by fixes$group <- .., and name it, as by by = \"group\"")
+}
+
+# Whether an expression is made of one variable alone, which is the table.
+is_made_of <- function(table, expression) {
+  is.symbol(table) && identical(unique(variables_of(expression)), as.character(table))
+}
+
+# The variables of an expression, but for the titles behind a dollar sign.
+variables_of <- function(expression) {
+  if (is.symbol(expression)) return(setdiff(as.character(expression), ""))
+  if (!is.call(expression)) return(NULL)
+  is_part <- is.symbol(expression[[1]]) && as.character(expression[[1]]) %in% c("$", "@", "::", ":::")
+  unlist(lapply(as.list(expression)[if (is_part) 2 else -1], variables_of))
 }
 
 # Refuses the title of a column of a file, of which fixes keep none but their own.
@@ -74,8 +117,17 @@ check_titles <- function(by, fixes) {
 
 # A value for each of so many rows or fixes.
 values_of <- function(by, number, what) {
+  if (inherits(by, "POSIXlt")) by <- as.POSIXct(by)
   if (length(dim(by)) > 1) {
     refuse("option", "by is a table, and a value for each row is wanted: take one column, or join several, as by paste(x$a, x$b)")
+  }
+  if (is.list(by) && length(by) && all(lengths(by) == number)) {
+    refuse("option", "by is a list of ", count_of(length(by), "vector"), ", and one vector is wanted: ",
+           if (length(by) == 1) "take it, as by by[[1]]" else "join them, as by paste(by[[1]], by[[2]])")
+  }
+  if (is.list(by) && length(by) && all(vapply(by, is_text, NA))) {
+    refuse("option", "by is a list of ", count_of(length(by), "text"), ": ", if (length(by) == 1) paste0("write by = \"", by[[1]], "\"") else
+      paste0("join the columns, as by paste(", paste0("x$", unlist(by), collapse = ", "), ")"))
   }
   if (is.list(by) || is.language(by) || is.environment(by)) {
     refuse("option", argument_text("by", by), " is none of ", paste0("\"", names(periods), "\"", collapse = ", "),
@@ -87,20 +139,26 @@ values_of <- function(by, number, what) {
 
 # Groups as text; what is no name of one is missing.
 text_of_groups <- function(by) {
-  if (is.numeric(by) && !is.object(by) && any(by != floor(by), na.rm = TRUE)) {
-    odd <- which(by != floor(by))[1]
-    number <- cells_of_numbers(by[odd])
-    refuse("option", "row ", odd, ": by has a group that is '", number, "', a number that is not whole: make it text", record = odd)
+  if (is.double(by) && !is.object(by)) {
+    odd <- which(is.infinite(by) | by != floor(by) | abs(by) >= most_exact)[1]
+    fault <- if (!is.na(odd) && is.finite(by[odd]) && by[odd] == floor(by[odd])) c(lost_digits, help_for_digits) else
+      c("a number that is not whole", "make it text")
+    if (!is.na(odd)) refuse_group(odd, cells_of_numbers(by[odd]), fault)
   }
   if (is.character(by) || is.factor(by)) return(check_printable(in_utf8(as.character(by))))
   if (inherits(by, "POSIXct") && all(as.numeric(by) %% 1 == 0, na.rm = TRUE)) return(moments_by_clock(by))
   cells <- cells_of_column(by, "by")
   odd <- which(grepl("^<[^<>]+>$", cells))[1]
   if (!is.na(odd)) {
-    refuse("option", "row ", odd, ": by has a group of the class ", class(by)[1], ", which is no text: make it one, as by as.character",
-           record = odd)
+    refuse("option", "row ", odd, ": by has a group of the class ", class(by)[1], ", which is no text: make it one, as by ",
+           if (inherits(by, "haven_labelled")) "haven::as_factor" else "as.character", record = odd)
   }
   cells
+}
+
+# Refuses a group for a fault, with what helps.
+refuse_group <- function(row, group, fault) {
+  refuse("option", "row ", row, ": by has a group that is '", group, "', ", fault[1], ": ", fault[2], record = row)
 }
 
 # Moments of whole seconds as their own clock shows them, and as days where all are midnights.
@@ -111,11 +169,12 @@ moments_by_clock <- function(by) {
   sub("[+]00:00$", "Z", sub("([0-9]{2})$", ":\\1", text))
 }
 
-# Refuses a group that is more than one line.
+# Refuses a group that is more than one line, or no text.
 check_printable <- function(groups) {
+  bad <- which(!is.na(groups) & !validUTF8(groups))[1]
+  if (!is.na(bad)) refuse_group(bad, readable(groups[bad]), c("which is no text in UTF-8", "mend it"))
   odd <- which(one_line(groups) != groups)[1]
-  if (is.na(odd)) return(groups)
-  refuse("option", "row ", odd, ": by has a group that is '", groups[odd], "', with a control character: make it text", record = odd)
+  if (is.na(odd)) groups else refuse_group(odd, groups[odd], c("with a control character", "make it text"))
 }
 
 # Refuses a fix of no group, by its row.
@@ -140,7 +199,10 @@ check_period <- function(by, titles) {
 # Why seconds have no calendar, and what helps.
 why_no_calendar <- function(fixes) {
   are_dates <- are_seconds_of_dates(fixes$second)
-  if (all(are_dates) || !any(are_dates)) return("seconds have no calendar: read a table with a column of date-times in place of second")
+  if (all(are_dates) || !any(are_dates)) {
+    return(paste("seconds have no calendar, since none is of the years 1973 to 2262: read a table with date-times of these, or name groups by",
+                 "a column of text"))
+  }
   odd <- which(!are_dates)[1]
   paste0("a fix of '", fixes$animal[odd], "', at ", format(.POSIXct(fixes$second[odd], tz = "UTC"), "%Y-%m-%d %H:%M:%S"), " UTC, is not of the ",
          "years 1973 to 2286, so that no second has a calendar: leave it out, as by since, or name groups by a column of text")

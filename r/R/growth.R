@@ -2,7 +2,8 @@
 
 # A row for each animal: from which fix on the area stayed at 95 per cent or more of the final one, and what the last tenth and
 # the last quarter of the fixes added.
-homerange_growth <- function(x) {
+homerange_growth <- function(x, ...) {
+  check_dots(...)
   check_ranges(x)
   first <- last_rows(x) - x$animals$fixes
   found <- lapply(split(x$rows$area2, rep(seq_along(first), x$animals$fixes)), growth_of)

@@ -1,6 +1,8 @@
 # Layers for a GIS: a GeoPackage with the polygons, the fixes, and how QGIS draws them, by sf. Two runs write the same bytes, so
 # its dates are those of a run that is not known.
 
+last_of_pandas <- 9223372036  # the last second that tables have: the times of pandas end in the year 2262
+
 no_date <- "1970-01-01T00:00:00.000Z"
 # Where no reference system is known: sf would write that the unit is not known either.
 plane_in_metres <- "LOCAL_CS[\"Undefined Cartesian SRS\",UNIT[\"metre\",1]]"

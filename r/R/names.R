@@ -13,13 +13,19 @@ names_of_files <- function(x) {
 
 # The names in files of animals of which no record is known: those that the program gives to two fixes of each.
 names_by_program <- function(animals) {
-  table <- list(animal = rep(animals, each = 2), second = rep(c(0, 60), length(animals)), easting = 500000, northing = 5000000)
+  split <- split_of_names(animals)
+  if (!is.null(split$refusal)) refuse(split$refusal$kind, split$refusal$text)
+  files_of(split$record)[animals]
+}
+
+# What the program makes of a table with two fixes of each name: the record, or what it refuses.
+split_of_names <- function(names) {
+  table <- list(animal = rep(names, each = 2), second = rep(c(0, 60), length(names)), easting = 500000, northing = 5000000)
   in_folder(function(folder) {
     path <- file.path(folder, name_of_frame)
-    write_parts(parts_of_frame(lapply(table, rep_len, 2 * length(animals))), path)
+    write_parts(parts_of_frame(lapply(table, rep_len, 2 * length(names))), path)
     refusal <- run_split(path, character(), file.path(folder, "tracks"))
-    if (!is.null(refusal)) refuse(refusal$kind, refusal$text)
-    files_of(read_record(file.path(folder, "tracks", "split.txt")))[animals]
+    list(refusal = refusal, record = if (is.null(refusal)) read_record(file.path(folder, "tracks", "split.txt")))
   })
 }
 

@@ -22,16 +22,41 @@ elsewhere <- c(
   use = "choose the rows of the table before, as by x[x$use, ]",
   months = "choose among the fixes, as by fixes[format(fixes$time, \"%m\") %in% c(\"05\", \"06\"), ]",
   hours = "choose among the fixes, as by fixes[format(fixes$time, \"%H\") < \"06\", ]",
-  mark = "fixes that are not used are left out and counted", to = "until is the last moment"
+  mark = "fixes that are not used are left out and counted", to = "until is the last moment", every_hours = "every takes hours too",
+  program = "options(homerange.program = ..) names it", unin = "coordinates are in metres, and in no other unit",
+  unout = "areas are in hectares", verbose = "quiet = TRUE says nothing"
+)
+elsewhere[c("levels", "by", "progress")] <- "give it to home_range"
+elsewhere[c("xy", "x", "y", "coords", "coordinates")] <- "easting and northing name columns of metres, and lon and lat those of degrees"
+elsewhere[c("sep", "delimiter", "separator", "dec", "decimal", "sheet", "skip", "skiprows")] <-
+  "read a file of another form before, as by read.csv, and give the data frame"
+
+# What others call what an option, or an argument of home_range, is here.
+ours <- c(
+  animal = "id ids individual individuals individual_id animal_id animals track_id burst", argos_class = "lc argos_lc",
+  by = "group groups group_by groupby season period", crs = "crs_code epsg srid srs proj projection proj4string",
+  every = "interval resolution", lat = "latitude", levels = "level percent percents isopleths", lon = "longitude long lng",
+  max_dop = "hdop pdop dop_max", max_speed = "speed vmax", na = "na_values na_strings", sensor = "sensors sensor_type",
+  since = "start begin from_date start_date", time = "date datetime timestamp times", time_format = "format date_format",
+  tz = "timezone time_zone", unit = "units", until = "end to_date end_date", zone = "utm utm_zone zone_number"
+)
+elsewhere <- c(elsewhere, unlist(lapply(names(ours), function(own) {
+  names <- strsplit(ours[[own]], " ")[[1]]
+  `names<-`(rep(paste("here it is", own), length(names)), names)
+})))
+
+# What others call what an argument of another function is here.
+arguments_of_others <- c(
+  animals = "animal id ids individual individuals", area = "unit unout", by = "author", col = "color colors colour colours palette",
+  facets = "facet panels", file = "path report", files = "tracks", fixes = "points", folder = "path into", label = "over_name boundary_name reserve_name",
+  levels = "level percent percents isopleths", made = "date day", main = "title", over = "boundary reserve polygon", overwrite = "force replace",
+  path = "file filename output", record = "split crs zone shift", reserve = "boundary over polygon", reserve_name = "boundary_name label over_name",
+  share = "proportion", start = "origin", tz = "timezone time_zone"
 )
 
 # The options that are given; NULL is no wish, and a zone of times that is empty is that of the session.
 options_given <- function(options) {
-  odd <- setdiff(names(options), options_of_reading)
-  if (length(odd) || length(options) > sum(nzchar(names(options)))) {
-    name <- c(odd[nzchar(odd)], "without a name")[1]
-    refuse("option", "there is no option ", name, if (name %in% names(elsewhere)) paste0(": ", elsewhere[[name]]))
-  }
+  check_options(options)
   twice <- names(options)[duplicated(names(options))]
   if (length(twice)) refuse("option", twice[1], " is there twice")
   given <- options[!vapply(options, is.null, NA)]
@@ -40,6 +65,14 @@ options_given <- function(options) {
     refuse("option", "tz = \"\" is the zone of the session, ", given$tz, ", which has no name: name it, such as tz = \"Europe/Ljubljana\"")
   }
   given
+}
+
+# Refuses options that there are not.
+check_options <- function(options) {
+  odd <- setdiff(names(options), options_of_reading)
+  if (!length(odd) && length(options) == sum(nzchar(names(options)))) return(invisible())
+  name <- c(sort(as.character(odd[nzchar(odd)]), method = "radix"), "without a name")[1]
+  refuse("option", "there is no option ", name, if (name %in% names(elsewhere)) paste0(": ", elsewhere[[name]]))
 }
 
 is_of_session <- function(options) identical(as.vector(options[["tz"]]), "")
@@ -117,7 +150,9 @@ with_commas <- function(option, words) {
 # A number, of a plain class or as text, of which the program says whether it can be right.
 text_of_number <- function(option, value) {
   if (is_text(value)) return(as.vector(value))
-  if (is.object(value) || !is_number(value) || value < 0) refuse("option", option, " is ", what_it_is(value), " and not a number from 0")
+  if (is.object(value) || !is_number(value) || value < 0) {
+    refuse("option", option, " is ", what_it_is(value), " and not a number", if (option == "max_speed") " of metres a second", " from 0")
+  }
   cells_of_numbers(as.numeric(value))
 }
 

@@ -1,34 +1,61 @@
-# Writes the page of home ranges: one HTML file with nothing outside it and no script, which reads well on paper. Its text and
-# its looks stand in inst/extdata/page.html, with named places that are filled here.
-
-most_in_key <- 40
-least_of_map <- c(m = 100, dm = 10)  # metres that a map is wide at least, whose fixes may all lie in one place
+# Has homerange-page write the tables and the page of a folder, and the page of ranges in memory by way of such a folder.
 
 # Writes the page.
 write_page <- function(x, path, title = NULL, study = NULL, species = NULL, by = NULL, reserve = NULL, reserve_name = NULL,
-                       tz = NULL, made = NULL) {
-  local_options(x, path, title, study, species, by, reserve, reserve_name, tz, made)
+                       tz = NULL, made = NULL, overwrite = FALSE, ...) {
+  check_dots(...)
+  local_options(x, path, title, study, species, by, reserve, reserve_name, tz, made, overwrite)
   check_ranges(x)
   check_whole(x, "a page")
   check_path(path)
-  check_typed(list(title = title, study = study, species = species, by = by, reserve_name = reserve_name), made, reserve)
+  check_truth(overwrite, "overwrite")
+  if (!grepl("[.]html?$", in_small(path))) refuse("option", argument_text("path", path), ": a name that ends in .html or .htm is wanted")
+  words <- list(title = title, study = study, species = species, by = by, boundary = reserve_name)
+  check_typed(words, made, reserve)
   zone <- zone_of_page(x, tz)
-  day <- as.POSIXlt(if (is.null(made)) as.POSIXlt(Sys.time(), tz = zone) else made)
-  program <- tryCatch(identity_of(homerange_program()), homerange_program_error = function(fault) list(version = "homerange"))
-  rings <- if (!is.null(reserve)) rings_in_order(rings_of_boundary(boundary_of(x, reserve)))
-  put_page(x, path, list(title = title, study = study, species = species, by = by, boundary = reserve_name), rings, zone, day, program)
+  rings <- rings_given(x, reserve)
+  program <- identity_of(homerange_program())
+  x <- with_dates(x)
+  names <- in_folder(function(folder) {
+    names <- put_known(x, folder)
+    write_report_as(x, names, file.path(folder, "report.txt"))
+    write_rings(rings, folder)
+    record <- record_in(file.path(folder, "tracks"))
+    options <- options_of_page(x, c(words, clock = zone), day_of_page(made, Sys.time(), zone), program, record)
+    make_page(folder, c(options, flags_of_page(x, folder)))
+    if (!overwrite) check_other_page(path, file.path(folder, "report.html"))
+    if (!suppressWarnings(file.copy(file.path(folder, "report.html"), expanded(path), overwrite = TRUE))) refuse("file", path, ": it cannot be written")
+    names
+  })
+  tell_of_tracks(x, names)
   invisible(path)
+}
+
+# Refuses to write a page over a file that is none: what stands before the title is the same in each.
+check_other_page <- function(path, page) {
+  own <- expanded(path)
+  before <- regexpr("<title>", readChar(page, 4096, useBytes = TRUE), fixed = TRUE, useBytes = TRUE) - 1
+  is_page <- !is_full(own) || identical(readBin(own, "raw", before), readBin(page, "raw", before))
+  if (!is_page) refuse_other(path, "is no page of write_page")
 }
 
 # Refuses what was typed in and is no text, a name of no reserve, and a day that is none.
 check_typed <- function(words, made, reserve) {
-  for (name in names(words)) {
-    if (!is.null(words[[name]]) && !is_text(words[[name]])) refuse("option", argument_text(name, words[[name]]), " is no text")
-  }
-  if (is.null(reserve) && is_given(words$reserve_name)) refuse("option", "reserve_name is the name of no reserve: give its shape as reserve")
-  if (is.null(made) || length(made) == 1 && inherits(made, c("Date", "POSIXct")) && !is.na(made)) return(invisible())
+  arguments <- replace(names(words), names(words) == "boundary", "reserve_name")
+  for (at in seq_along(words)) if (!is.null(words[[at]])) check_typed_word(arguments[at], words[[at]])
+  if (is.null(reserve) && is_given(words$boundary)) refuse("option", "reserve_name is the name of no reserve: give its shape as reserve")
+  if (is.null(made) || length(made) == 1 && inherits(made, c("Date", "POSIXct")) && is.finite(made)) return(invisible())
   refuse("option", argument_text("made", made), " is no date")
 }
+
+# Refuses what was typed in and is no text.
+check_typed_word <- function(name, word) {
+  if (!is_text(word)) refuse("option", argument_text(name, word), " is no text")
+  if (!validUTF8(in_utf8(word))) refuse("option", name, " is ", readable(word), ", which is no text in UTF-8")
+}
+
+# Whether a text was typed in.
+is_given <- function(text) !is.null(text) && nzchar(text)
 
 # The zone of the dates of a page.
 zone_of_page <- function(x, tz) {
@@ -40,153 +67,63 @@ zone_of_page <- function(x, tz) {
   zone
 }
 
-# Writes the page with what was typed in, the rings of a boundary, the zone of dates, the day, and the program with its checksum.
-put_page <- function(x, path, words, rings, zone, day, program) {
-  rows <- rows_of_page(x)
-  ends <- vapply(rows, function(row) c(row$first, row$last), c(0, 0))
-  clock <- new_clock(zone, ends)
-  drawn <- places_of_map(x, rings, words$boundary)
-  head <- if (is_given(words$title)) words$title else heading_of_page(x$animals$animal)
-  places <- c(drawn$places, places_of_numbers(x, rows, clock), list(
-    title = as_html(head), heading = in_bdi(head),
-    typed = typed_text(c(Study = words$study, Species = words$species, By = words$by)),
-    period = period_of_page(clock, range(ends)), made = paste0("Made on ", day_text(day), " with ", as_html(program$version), "."),
-    method = paste0(method_text(program$version, drawn$system, x$unit, unique(x$percents$level)), " ", left_out_text(x),
-                    options_text(x$record), said_text(x$notes)),
-    verify = verify_text(x$record, x$checksum),
-    checksums = checksums_table(x$record, x$checksum, program$version, program$checksum)
+# The day of making: the one that was given, or that of a moment.
+day_of_page <- function(made, now, zone) if (is.null(made)) format(now, "%Y-%m-%d", tz = zone) else format(made, "%Y-%m-%d")
+
+# Ranges whose seconds are since 1970, where they were read with the moment from which their seconds are counted: their files have other
+# ones.
+with_dates <- function(x) {
+  time <- x$rows$time
+  second <- if (inherits(time, "POSIXct")) floor(as.numeric(time)) else x$rows$second
+  added <- second[1] - x$rows$second[1]
+  if (added == 0) return(x)
+  x$rows$second <- second
+  if (!is.null(x$fixes)) x$fixes$moment <- x$fixes$moment + added
+  x[c("files", "record_file")] <- NULL
+  x
+}
+
+# The options of the page's program: what was typed in, the zone of dates, the day, the program that made the report, and what the
+# record of the tracks does not say.
+options_of_page <- function(x, words, day, program, record) {
+  beside <- system_beside(x, record)
+  options <- c(words[setdiff(names(words), c("boundary", "day"))], list(
+    "boundary-name" = words$boundary, made = day, program = program$version, "program-sum" = program$checksum, system = beside$crs,
+    shift = beside$shift, "area-difference" = area_difference(x)
   ))
-  template <- paste0(readLines(system.file("extdata", "page.html", package = "homerange"), encoding = "UTF-8"), "\n", collapse = "")
-  output <- open_file(path)
-  on.exit(close(output))
-  writeBin(charToRaw(enc2utf8(fill_template(template, places))), output)
+  options <- options[vapply(options, is_given, NA)]
+  sprintf("--%s=%s", names(options), in_utf8(unlist(options)))
 }
 
-# The template with its places filled, once: what stands for a place in a user's text stays.
-fill_template <- function(template, places) {
-  found <- gregexpr("\\{\\{[a-z]+\\}\\}", template)
-  names <- gsub("[{}]", "", regmatches(template, found)[[1]])
-  regmatches(template, found) <- list(unlist(places[names]))
-  template
+# By how much areas on the grid differ from those on the ground, in per cent, at the least and at the most; NULL where it is not known
+# here. That of UTM is known to the program.
+area_difference <- function(x) {
+  if (!is.null(x$zone) || is.null(x$crs) || !is.null(zone_of_crs(x$crs))) return(NULL)
+  scales_at <- scales_of_crs(x$crs)
+  scales <- vapply(rings_of(x, levels_drawn(x)[1]), function(corners) {
+    box <- box_of(corners)
+    scales_at((box[1] + box[3]) / 2, (box[2] + box[4]) / 2)[["areas"]]
+  }, 0)
+  paste(sprintf("%+.2f", 100 * (range(scales) - 1)), collapse = ",")
 }
 
-# Whether a text was typed in.
-is_given <- function(text) !is.null(text) && nzchar(text)
-
-heading_of_page <- function(animals) {
-  number <- length(animals)
-  paste("Home ranges of", if (number < 4) words_listed(animals) else paste(number, "animals"))
+# The flags of the page of ranges of which no report is kept, or that were made of a frame.
+flags_of_page <- function(x, folder) {
+  is_kept <- identical(x$checksum, checksum_of(file.path(folder, "report.txt")))
+  c(if (!is_kept) "--alone", if (isTRUE(x$read$is_frame)) "--data")
 }
 
-# What was typed in.
-typed_text <- function(words) {
-  words <- words[nzchar(words)]
-  paste0(sprintf("<span>%s: %s</span> ", names(words), in_bdi(words)), collapse = "")
-}
-
-# From the first day of all to the last.
-period_of_page <- function(clock, ends) {
-  by <- if (clock$is_calendar) paste("dates of", clock$zone) else "counted from the start that the files have"
-  paste0(period_text(clock, ends[1], ends[2]), " (", as_html(by), ")")
-}
-
-# The places with tables, sentences and curves.
-places_of_numbers <- function(x, rows, clock) {
-  names <- x$animals$animal
-  pairs <- pairs_that_meet(x$overlaps, x$animals$fixes)
-  list(
-    sentences = sentences_of_animals(rows, clock, x$unit),
-    animals = animals_table(rows, clock, x$unit, paste("in the", source_of(x$record))), notes = text_without_range(x),
-    size = if (length(rows) <= 3) "whole" else "long", curves = page_curves(rows, in_bdi(names), x$unit),
-    overlap = overlap_sentence(names, x$overlaps, x$animals$fixes, pairs),
-    overlaps = overlaps_table(names, x$overlaps, x$animals$fixes, pairs)
-  )
-}
-
-# The levels of the map from the highest on; without the fixes that of all is the only one that is known.
-levels_drawn <- function(x) if (is.null(x$fixes)) 100 else sort(unique(x$percents$level), decreasing = TRUE)
-
-# What is drawn of each animal.
-shapes_of_page <- function(x) {
-  polygons <- lapply(levels_drawn(x), function(level) rings_of(x, level))
-  shapes_of_animals(x, polygons, !is.null(x$fixes), seq_along(x$animals$animal))
-}
-
-# What is drawn of the animals of these numbers.
-shapes_of_animals <- function(x, polygons, has_fixes, numbers) {
-  places <- if (has_fixes) in_metres(x, x$fixes)
-  rows <- if (has_fixes) split(seq_along(x$fixes$animal), factor(x$fixes$animal, x$animals$animal))
-  lapply(numbers, function(number) {
-    list(number = number, polygons = lapply(polygons, `[[`, number),
-         fixes = if (has_fixes) places[rows[[number]], , drop = FALSE] else matrix(0, 0, 2))
-  })
-}
-
-# The rings of a boundary.
-rings_of_boundary <- function(shape) {
-  if (inherits(shape, "POLYGON")) return(lapply(unclass(shape), ring_in_order))
-  if (inherits(shape, "MULTIPOLYGON")) return(lapply(unlist(unclass(shape), recursive = FALSE), ring_in_order))
-  if (is.list(shape)) unlist(lapply(shape, rings_of_boundary), recursive = FALSE)
-}
-
-# The points of a ring, each once, from the westernmost on, of two such the southern, towards the more western of both beside
-# it, to whole millimetres: shapes say neither where a ring begins nor which comes first.
-ring_in_order <- function(ring) {
-  points <- ring[-1, 1:2]
-  points[] <- as.numeric(sprintf("%.3f", points))
-  first <- order(points[, 1], points[, 2])[1]
-  points <- points[(first + seq_len(nrow(points)) - 2) %% nrow(points) + 1, ]
-  ends <- c(2, nrow(points))
-  if (order(points[ends, 1], points[ends, 2])[1] == 1) points else points[c(1, rev(seq_len(nrow(points))[-1])), ]
-}
-
-# The rings of a boundary in the order of their first two points.
-rings_in_order <- function(rings) {
-  starts <- vapply(rings, function(ring) c(t(ring[1:2, ])), c(0, 0, 0, 0))
-  rings[order(starts[1, ], starts[2, ], starts[3, ], starts[4, ])]
-}
-
-# The places with the map and what is said of it, and how the reference system is written.
-places_of_map <- function(x, rings, name) {
-  shapes <- shapes_of_page(x)
-  middles <- do.call(rbind, lapply(shapes, function(shape) {
-    box <- box_of(shape$polygons[[1]])
-    c((box[1] + box[3]) / 2, (box[2] + box[4]) / 2)
-  }))
-  system <- system_of_page(x, middles)
-  drawn <- page_maps(shapes, rings, as_html(system$text), least_of_map[[x$unit]])
-  name <- if (!is.null(rings)) if (is_given(name)) in_bdi(name) else "boundary"
-  list(system = system$text, places = list(
-    maps = paste(drawn$drawings, collapse = "\n"), key = key_of_map(x, name),
-    ground = ground_text(system, drawn, !is.null(x$fixes), !is.null(rings))
-  ))
-}
-
-# A piece of a line of the map, and what it is.
-swatch_of <- function(kind, text) {
-  paste0("<span class=\"line\"><svg class=\"swatch\" viewBox=\"0 0 34 11\"><path class=\"", kind,
-         "\" d=\"M1 1H33V10H1Z\"/></svg>", text, "</span>")
-}
-
-# What lines and numbers of the map are.
-key_of_map <- function(x, boundary) {
-  levels <- levels_drawn(x)
-  found <- c(swatch_of(sprintf("l%.0f c6", (seq_along(levels) - 1) %% line_styles), paste(levels, "% MCP")),
-             if (!is.null(boundary)) swatch_of("boundary", boundary))
-  places <- seq_along(x$animals$animal)
-  numbers <- if (length(places) > most_in_key) "<span>Numbers are those of the table.</span>" else
-    paste0("<span><b class=\"", colour_class(places), "\">", places, "</b>&#160;", in_bdi(x$animals$animal), "</span>")
-  paste(c(found, numbers), collapse = "\n")
-}
-
-# What is said below the map.
-ground_text <- function(system, drawn, has_fixes, has_boundary) {
-  unseen <- drawn$unseen
-  paste(c(
-    paste("The grid is in metres.", system$difference),
-    if (has_fixes) "Dots are fixes; of those that would cover each other one is drawn.",
-    if (has_boundary && !drawn$has_boundary) "The boundary lies outside this map.",
-    if (length(unseen)) paste0("Too small to be seen beside the others: ", paste(unseen[seq_len(min(20, length(unseen)))], collapse = ", "),
-                               if (length(unseen) > 20) ", ..", ".")
-  ), collapse = " ")
+# Has the page's program write its files into a folder.
+make_page <- function(folder, words) {
+  program <- page_program()
+  fault <- tempfile("fault")
+  on.exit(unlink(fault))
+  local_utf8(character())
+  call <- vapply(c(words, "--", folder), function(word) shQuote(in_bytes(word)), "")
+  status <- suppressWarnings(system2(program, call, stdout = FALSE, stderr = fault))
+  if (status == 0) return(invisible())
+  line <- utils::tail(c("it says no more", readLines(fault, warn = FALSE, encoding = "UTF-8")), 1)
+  text <- sub("^homerange-page: ", "", line)
+  if (text == line || !status %in% seq_along(kinds_by_status)) refuse("program", "homerange-page ended with status ", status, ": ", line)
+  refuse(kinds_by_status[status], text)
 }

@@ -42,8 +42,15 @@ word_of_these <- function(value, words, name) {
 
 # Refuses what are no two ends of an axis.
 check_limits <- function(value, name) {
-  is_good <- is.null(value) || length(value) == 2 && all(is.finite(value)) && value[1] != value[2]
+  is_good <- is.null(value) || !is.logical(value) && length(value) == 2 && all(is.finite(value)) && value[1] != value[2]
   if (!is_good) refuse("option", argument_text(name, value), " are no two ends of an axis")
+}
+
+# Refuses the ends of an axis between which nothing lies of what is drawn, which goes from here to there.
+check_ends <- function(value, name, drawn, help = NULL, as_text = function(end) in_digits(signif(end, 7))) {
+  if (is.null(value) || min(value) <= max(drawn) && max(value) >= min(drawn)) return(invisible())
+  text <- function(ends) paste("from", paste(vapply(ends, as_text, ""), collapse = " to "))
+  refuse("option", name, ": nothing lies ", text(range(value)), ", since what is drawn goes ", text(drawn), help)
 }
 
 # Refuses what cannot be written beside a drawing.
@@ -57,7 +64,7 @@ arguments_of_titles <- c("sub", "outer", "family", paste0(c("cex.", "col.", "fon
 # Refuses arguments that are none of titles.
 check_title <- function(...) {
   odd <- setdiff(names_of_arguments(...), arguments_of_titles)
-  if (length(odd)) refuse("option", if (nzchar(odd[1])) paste("there is no argument", odd[1]) else "there is an argument too many")
+  if (length(odd)) refuse_argument(odd[1], names(formals(sys.function(sys.parent()))))
 }
 
 # The animals that are wanted, in the order of the ranges: their numbers among all, their names, and the colours of the user or
@@ -67,7 +74,7 @@ drawn_animals <- function(ranges, animals, col) {
   is_named <- is.null(animals) || is.character(animals) || is.factor(animals)
   if (!is_named) refuse("option", argument_text("animals", animals), " are no names")
   missing <- setdiff(as.character(animals), known)
-  if (length(missing)) refuse("option", "there is no animal \"", missing[1], "\"")
+  if (length(missing)) refuse_animal(paste0("\"", missing[1], "\""), known)
   if (!is.null(animals) && !length(animals)) refuse("option", "animals: there is none")
   number <- which(known %in% if (is.null(animals)) known else animals)
   drawn <- data.frame(number = number, name = known[number], colour = animal_colours[(number - 1) %% length(animal_colours) + 1])
@@ -76,6 +83,8 @@ drawn_animals <- function(ranges, animals, col) {
   is_colour <- vapply(col, function(own) !is.na(own) && !inherits(try(col2rgb(own), silent = TRUE), "try-error"), NA)
   odd <- if (length(col)) unlist(col)[!is_colour] else list(col)
   if (length(odd)) refuse("option", "col: ", what_it_is(odd[[1]]), " is no colour")
+  unknown <- setdiff(names(col), c("", known))
+  if (length(unknown)) refuse("option", "col: there is no animal \"", unknown[1], "\"")
   if (is.null(names(col))) {
     drawn$colour <- rep_len(col, nrow(drawn))
   } else {
@@ -95,11 +104,17 @@ drawn_levels <- function(ranges, levels) {
 check_over <- function(ranges, over) {
   if (is.null(over)) return(NULL)
   if (!inherits(over, c("sf", "sfc"))) refuse("option", "over: an sf geometry is wanted")
-  if (!length(sf::st_geometry(over)) || all(sf::st_is_empty(over))) refuse("option", "over has no shape")
-  if (is.null(ranges$crs)) refuse("option", "over: the CRS of the fixes is not known: name it, as by home_range(x, crs = 32633)")
-  if (is.na(sf::st_crs(over))) refuse("option", "over has no CRS: name its own, as by sf::st_set_crs(over, 32633)")
-  if (sf::st_crs(over) != ranges$crs) {
+  check_kinds(sf::st_geometry(over), over, "over")
+  own <- crs_or_none(ranges)
+  if (is.na(own) && !is.na(sf::st_crs(over))) refuse("option", "over: the CRS of the fixes is not known, and over has one: ", help_for_no_crs(ranges, "over"))
+  if (is.na(sf::st_crs(over)) && !is.na(own)) refuse("option", "over has no CRS: name its own, as by sf::st_set_crs(over, 32633)")
+  check_degrees(sf::st_geometry(over), over, are_in_degrees(over), "over")
+  if (!is.na(own) && sf::st_crs(over) != own) {
     refuse("option", "over: this is not in the CRS of the fixes: sf::st_transform(over, sf::st_crs(sf::st_as_sf(x)))")
   }
-  sf::st_geometry(over)
+  shapes <- sf::st_zm(sf::st_geometry(over))
+  tell_shapes_left(shapes, over, "boundary", "over")
+  shapes <- polygons_of(shapes)
+  tell_far(shapes, ranges, "boundary")
+  shapes
 }

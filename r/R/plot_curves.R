@@ -19,7 +19,9 @@ draw_curves <- function(ranges, drawn, by, share, facets, asked) {
   labels <- list(x = if (by == "fix") "Number of fixes" else if (is_dated) paste0("Date (", ranges$tz, ")") else
     "Days from the files' start", y = paste0("Area (", unit$sign, ")"))
   zone <- if (is_dated) ranges$tz
+  if (!is.null(asked$xlim)) asked$xlim <- seconds_of_ends(asked$xlim)
   if (facets) return(draw_curve_panels(ranges, drawn, lines, zone, labels, asked))
+  check_curve_ends(lines, asked, zone)
   limits <- curve_limits(lines, by, asked)
   key <- data.frame(text = key_names(drawn), colour = drawn$colour, dashes = "solid", width = 2)
   begin_plot(limits$x, limits$y, key, asked$main)
@@ -29,12 +31,23 @@ draw_curves <- function(ranges, drawn, by, share, facets, asked) {
   if (nrow(drawn) > 1) if (share) number_parts(drawn, lines) else number_ends(drawn, lines)
 }
 
+# The ends of an axis as numbers: of days and moments the seconds since 1970.
+seconds_of_ends <- function(ends) as.numeric(if (inherits(ends, "Date")) as.POSIXct(ends) else ends)
+
+# Refuses limits between which no curve lies; where a time zone is given, the lower axis has dates.
+check_curve_ends <- function(lines, asked, zone) {
+  across <- range(unlist(lapply(lines, `[[`, "across")))
+  if (is.null(zone)) check_ends(asked$xlim, "xlim", across) else
+    check_ends(asked$xlim, "xlim", across, as_text = function(end) format(.POSIXct(end, tz = zone), "%Y-%m-%d %H:%M"))
+  check_ends(asked$ylim, "ylim", range(unlist(lapply(lines, `[[`, "area"))))
+}
+
 # The limits of both axes, from no fix and no area on.
 curve_limits <- function(lines, by, asked) {
   across <- range(unlist(lapply(lines, `[[`, "across")))
   if (by == "fix") across[1] <- 0
   most <- max(unlist(lapply(lines, `[[`, "area")))
-  list(x = if (is.null(asked$xlim)) across else as.numeric(asked$xlim),
+  list(x = if (is.null(asked$xlim)) across else asked$xlim,
        y = if (is.null(asked$ylim)) c(0, max(most, 1e-9)) else asked$ylim)
 }
 

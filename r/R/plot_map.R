@@ -7,18 +7,55 @@ times_wider <- 6  # how much wider than all ranges a boundary may be that a map 
 
 draw_ranges <- function(ranges, drawn, levels, fixes, over, label, facets, asked) {
   shapes <- shapes_drawn(ranges, drawn, levels, fixes)
-  title <- paste0(paste(levels, collapse = ", "), " % of the fixes; ", system_of_page(ranges, t(box_of_shapes(shapes)[1:2]))$text)
-  if (facets) return(draw_map_panels(ranges, drawn, shapes, levels, title, asked))
+  title <- paste0(paste(levels, collapse = ", "), " % of the fixes; ", system_of_plot(ranges))
+  odd <- intersect(c("xlim", "ylim"), names(Filter(Negate(is.null), asked)))
+  if (facets && length(odd)) refuse("option", odd[1], " is of one map, and facets have one for each animal: leave it out, or facets")
+  if (facets) return(draw_map_panels(ranges, drawn, shapes, levels, over, title, asked))
+  check_map_ends(asked, box_of_boxes(rbind(box_of_shapes(shapes), if (!is.null(over)) as.numeric(sf::st_bbox(over)))))
   box <- box_with(box_of_shapes(shapes), over, least_of_map[[ranges$unit]])
   xlim <- if (is.null(asked$xlim)) box[c(1, 3)] else asked$xlim
   ylim <- if (is.null(asked$ylim)) box[c(2, 4)] else asked$ylim
   begin_plot(xlim, ylim, key_of_ranges(ranges, drawn, levels, if (!is.null(over)) label), asked$main, 1, foot_of_map)
   draw_grid(asked)
   mtext(title, adj = 0, line = 0.2, cex = 0.8 * par("cex"))
-  if (!is.null(over)) plot(over, add = TRUE, border = edge_colour, col = NA, lwd = 3)
+  draw_over(over)
   draw_shapes(shapes, drawn)
   if (nrow(drawn) > 1) draw_numbers(shapes, drawn)
   draw_scale()
+  if (!is.null(over)) tell_unseen(over)
+}
+
+# Refuses limits of a map whose first is the greater, or between which nothing of a box lies, as if they were in kilometres.
+check_map_ends <- function(asked, box) {
+  for (side in list(list(name = "xlim", ends = box[c(1, 3)]), list(name = "ylim", ends = box[c(2, 4)]))) {
+    own <- asked[[side$name]]
+    if (is.null(own)) next
+    text <- paste0("c(", paste(cells_of_numbers(as.numeric(sort(own))), collapse = ", "), ")")
+    if (own[1] > own[2]) refuse("option", side$name, ": the first is the greater: write ", side$name, " = ", text)
+    are_kilometres <- 1000 * own[1] <= side$ends[2] && 1000 * own[2] >= side$ends[1]
+    check_ends(own, side$name, side$ends, if (are_kilometres) paste0(": limits are in metres, so write ", side$name, " = 1000 * ", text))
+  }
+}
+
+# The boundary, where there is one.
+draw_over <- function(over) if (!is.null(over)) plot(over, add = TRUE, border = edge_colour, col = NA, lwd = 3)
+
+# Says of a boundary that no edge of it is on the map that was drawn.
+tell_unseen <- function(over) {
+  ends <- par("usr")
+  view <- sf::st_as_sfc(sf::st_bbox(c(xmin = ends[1], ymin = ends[3], xmax = ends[2], ymax = ends[4])))
+  over <- sf::st_set_crs(over, NA)
+  if (any(sf::st_intersects(sf::st_boundary(over), view, sparse = FALSE))) return(invisible())
+  is_around <- any(sf::st_intersects(over, view, sparse = FALSE))
+  tell_note(paste("no edge of the boundary is on this map, which lies", if (is_around) "within it" else "outside of it"), "left_out")
+}
+
+# The reference system of ranges, as it is written; as their record has it, since versions of PROJ have other names.
+system_of_plot <- function(ranges) {
+  if (!is.null(ranges$zone)) return(text_of_zone(ranges$zone))
+  if (is.null(ranges$crs)) return("reference system not known")
+  own <- ranges$record$crs
+  if (is.null(own) || !is.null(zone_of_crs(ranges$crs))) text_of_crs(ranges$crs) else own
 }
 
 # What is drawn of each animal.
@@ -134,15 +171,16 @@ draw_scale <- function() {
 }
 
 # A map for each animal, with its number, its name and its area above, and a bar of scale of its own.
-draw_map_panels <- function(ranges, drawn, shapes, levels, title, asked) {
+draw_map_panels <- function(ranges, drawn, shapes, levels, over, title, asked) {
   areas <- area_texts(ranges, drawn, levels[1])
   in_panels(drawn, if (nzchar(asked$main)) asked$main else title, function(own, size) {
     at <- match(own$name, drawn$name)
-    box <- box_with(box_of_shapes(shapes[at]), NULL, least_of_map[[ranges$unit]])
+    box <- box_with(box_of_shapes(shapes[at]), over, least_of_map[[ranges$unit]])
     plot.new()
     foot <- 0.28 * max((box[4] - box[2]) / par("pin")[2], (box[3] - box[1]) / par("pin")[1])
     plot.window(box[c(1, 3)], c(box[2] - foot, box[4]), asp = 1)
     box(col = "grey60")
+    draw_over(over)
     draw_shapes(shapes[at], own)
     draw_scale()
     mtext(paste0(own$number, " ", short_name(own$name), ", ", areas[at]), adj = 0, line = 0.2, cex = size, col = own$colour)

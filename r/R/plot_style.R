@@ -119,7 +119,7 @@ text_with_edge <- function(x, y, labels, size, colour, ...) {
 
 # Calls a function for each animal, which draws into a panel of its own with little room around it.
 in_panels <- function(drawn, main, action) {
-  columns <- curve_layout(nrow(drawn))$columns
+  columns <- columns_of_panels(nrow(drawn))
   size <- c(1, 1, 0.9, 0.8, 0, 0.6, 0, 0, 0, 0.45)[columns]
   par(mfrow = c(ceiling(nrow(drawn) / columns), columns), oma = c(1.6, 1.6, if (nzchar(main)) 2.4 else 0.6, 0),
       mar = c(1.6, 2.2, 1.4, 0.4), mgp = c(1, 0.3, 0), tcl = -0.2, cex = size)

@@ -1,4 +1,4 @@
-# Finds the programs homerange and homerange-split, and runs homerange.
+# Finds the programs homerange, homerange-split and homerange-page, and runs homerange.
 
 # The path of the program.
 homerange_program <- function() normalizePath(found_program(getNamespaceInfo("homerange", "path")))
@@ -23,18 +23,20 @@ found_program <- function(here) {
   found[[1]]
 }
 
-# The path of the program homerange-split, which lies beside the program homerange.
-split_program <- function(here = getNamespaceInfo("homerange", "path")) {
+# The paths of the programs homerange-split and homerange-page, which lie beside the program homerange.
+split_program <- function(here = getNamespaceInfo("homerange", "path")) program_beside("homerange-split", here)
+page_program <- function(here = getNamespaceInfo("homerange", "path")) program_beside("homerange-page", here)
+
+# The path of a program that lies beside the program homerange.
+program_beside <- function(name, here) {
   found <- found_program(here)
-  if (identical(found, packed_path(here, "homerange"))) {
-    return(normalizePath(held_program(packed_path(here, "homerange-split"))))
-  }
+  if (identical(found, packed_path(here, "homerange"))) return(normalizePath(held_program(packed_path(here, name))))
   for (folder in dirname(c(found, normalizePath(found)))) {
-    path <- Sys.which(file.path(folder, "homerange-split"))[[1]]
+    path <- Sys.which(file.path(folder, name))[[1]]
     if (nzchar(path)) return(normalizePath(path))
   }
-  refuse("program", "there is no program homerange-split beside ", found, ": install it there, from release/homerange-split of ",
-         "homerange's repository")
+  refuse("program", "there is no program ", name, " beside ", found, ": install it there, from release/", name,
+         " of homerange's repository")
 }
 
 # The program that was installed with the package, or nothing.
@@ -128,7 +130,7 @@ with_names <- function(table, tracks) {
 
 # Calls a function with a folder of its own, which is gone afterwards.
 in_folder <- function(action) {
-  folder <- tempfile("homerange")
+  folder <- tempfile("homerange", tempdir(check = TRUE))
   dir.create(folder)
   on.exit(unlink(folder, recursive = TRUE))
   action(folder)

@@ -70,6 +70,13 @@ as_read <- function(fixes, titles) {
   new_fixes(fixes, facts)
 }
 
+# Whether fixes are those of the rows of their table, each of its own, in the order of these.
+are_rows_of_table <- function(fixes) {
+  facts <- facts_of(fixes)
+  values <- function(columns) lapply(unname(columns), plain_values)
+  isTRUE(facts$is_in_order) && identical(values(as.list(fixes)[own_columns(fixes)]), values(facts$seen$own))
+}
+
 # The zone by whose clock times of fixes are shown, which may be another than that by which they were read.
 clock_of_fixes <- function(fixes) {
   zone <- if (inherits(fixes$time, "POSIXct")) zone_of_times(fixes$time)
@@ -84,7 +91,7 @@ is_as_read <- function(fixes) {
 # The checksum of the titles, classes and values of columns, in order.
 checksum_of_fixes <- function(fixes) {
   columns <- columns_to_read(fixes)
-  path <- tempfile("fixes")
+  path <- tempfile("fixes", tempdir(check = TRUE))
   on.exit(unlink(path))
   output <- file(path, "wb")
   for (title in names(columns)) writeBin(bytes_of_values(columns[[title]], title), output)
@@ -278,18 +285,31 @@ refuse_system <- function(facts, given) {
   }
 }
 
+# What was said of a reading, but for titles that are said not to be read, and have been since.
+with_sources <- function(facts, sources) {
+  is_of_rest <- startsWith(facts$notes, "not read: ")
+  rest <- Filter(function(title) is_listed(title, facts$notes[is_of_rest]), setdiff(facts$titles, sources))
+  line <- if (length(rest)) paste0("not read: ", paste(one_line(rest), collapse = ", "))
+  if (length(sources) == length(facts$sources) || !any(is_of_rest)) return(facts$notes)
+  c(facts$notes[!is_of_rest], line)
+}
+
+# The columns of fixes that were read again by others than their own, as a line.
+line_of_again <- function(notes, own) {
+  lines <- sub("; .*", "", sub("^columns: ", "", grep("^columns: ", notes, value = TRUE)))
+  if (length(lines) && !all(lines == paste(own, collapse = ", "))) paste0("read again by columns: ", lines)
+}
+
 # Fixes as they were read, or the fixes of those that were changed, by options that go before those of their reading, with their
 # further columns. What was left out by the first reading, since and by the second stands together; said is what the first had not
-# said.
-read_again <- function(x, given, folder, has_rows) {
+# said, and of columns that were added, but for one that is used otherwise, that they are not read.
+read_again <- function(x, given, folder, has_rows, used) {
   facts <- facts_of(x)
-  if (is.null(facts$seen)) {
-    refuse("option", "it is not known how these fixes were read, since they were joined to others: read them anew by read_fixes")
-  }
+  if (is.null(facts$seen)) refuse_unknown()
   if (!nrow(x)) refuse("empty", "no fix is left")
   if (!length(given) && is_as_read(x)) {
     check_sources(x)
-    return(list(fixes = x))
+    return(with_added_said(list(fixes = x), x, used))
   }
   check_times(x)
   check_own(x)
@@ -311,13 +331,27 @@ read_again <- function(x, given, folder, has_rows) {
   is_done <- endsWith(said, ": left out") | endsWith(said, ": sorted by time")  # to rows, and was not when these were read
   read$said <- grep(form_of_taken, said[is_done | !said %in% facts$notes], value = TRUE, invert = TRUE)
   now <- facts_of(read$fixes)
-  now$notes <- c(facts$notes, read$said)
+  sources <- union(facts$sources, now$sources)
+  now$notes <- c(with_sources(facts, sources), if (has_filter) line_of_again(now$notes, own_columns(x)), read$said)
   since <- left_since(x)
   now$left_out <- summed_left(rbind(since$left, now$left_out))
   now$unknown <- since$unknown
   now$is_again <- TRUE
-  now$sources <- facts$sources
+  now$is_in_order <- now$is_in_order && are_rows_of_table(x)
+  now$records <- records_of(facts)
+  now$sources <- sources
   more <- if (has_rows) rows_of_columns(further_columns(further), read$frame$rows, nrow(x))
   read$fixes <- new_fixes(frame_of(c(as.list(read$fixes), more)), now)
+  with_added_said(read, x, used)
+}
+
+# What was read of these fixes, with what is said of columns that were added to them, and not read.
+with_added_said <- function(read, x, used) {
+  facts <- facts_of(read$fixes)
+  added <- setdiff(unique(names(x)), c(facts$titles, facts_of(x)$titles, facts$sources, titles_of_fixes, if (is_text(used)) used))
+  if (!length(added)) return(read)
+  line <- paste0("not read: ", paste(one_line(readable(added)), collapse = ", "))
+  attr(read$fixes, "homerange")$notes <- c(facts$notes, line)
+  read$said <- c(read$said, line)
   read
 }

@@ -2,6 +2,7 @@
 
 # The fixes of a file or of a data frame.
 read_fixes <- function(x, ..., quiet = FALSE) {
+  if (missing(x)) refuse_missing("read_fixes")
   local_options(x, ..., quiet)
   check_truth(quiet, "quiet")
   fixes <- in_folder(function(folder) read_table(x, list(...), quiet, folder))$fixes
@@ -9,18 +10,19 @@ read_fixes <- function(x, ..., quiet = FALSE) {
 }
 
 # The fixes, and beside them what was said and the tracks that the program made in a folder. Of a frame they have its further
-# columns, and it is known which of how many rows each is, unless that is not wanted.
-read_table <- function(x, options, quiet, folder, has_rows = TRUE) {
+# columns, and it is known which of how many rows each is, unless that is not wanted. A column may be used that is not read.
+read_table <- function(x, options, quiet, folder, has_rows = TRUE, used = NULL) {
   given <- options_given(options)
   groups <- if (is_fixes(x)) groups_of_dplyr(x, "animal")
   x <- as_fixes(x)
+  if (is_made_of_fixes(x) && is.null(facts_of(x)) && has_columns(x)) refuse_unknown()
   lost <- line_of_lost(x)
   if (!is.null(lost)) {
     if (!quiet) tell_note(lost, "guessed")  # also where it is refused then
     attr(x, "homerange") <- NULL
   }
   read <- if (is_fixes(x)) {
-    read_again(x, given, folder, has_rows)
+    read_again(x, given, folder, has_rows, used)
   } else if (is_text(x)) {
     if (!nzchar(x)) refuse("option", argument_text("x", x), " is no path")
     read_file(x, given, folder)
@@ -31,6 +33,11 @@ read_table <- function(x, options, quiet, folder, has_rows = TRUE) {
   read$said <- c(session, groups, read$said)
   if (!quiet) for (line in read$said) tell_note(line, kind_of_said(line))
   read
+}
+
+refuse_unknown <- function() {
+  refuse("option", "it is not known any more how these fixes were read: read them anew as a table, as by ",
+         "read_fixes(as.data.frame(x), zone = ..), and with the unit that they have")
 }
 
 # What is said of fixes that have lost one of their columns, or have it by another name.
@@ -48,8 +55,9 @@ read_file <- function(path, given, folder) {
   into <- file.path(folder, "tracks")
   refusal <- run_split(full, c(words_of_options(given), places$words), into)
   if (!is.null(refusal)) {
-    text <- sub(full, readable(path), refusal$text, fixed = TRUE)
-    file <- if (refusal$kind %in% kinds_of_tables && !startsWith(text, readable(path))) paste0(readable(path), ": ")
+    name <- one_line(readable(path))
+    text <- with_help(sub(one_line(full), name, refusal$text, fixed = TRUE), list(given = given))
+    file <- if (refusal$kind %in% kinds_of_tables && !startsWith(text, name)) paste0(name, ": ")
     record <- if (!is.null(refusal$record)) sprintf("record %.0f: ", refusal$record)
     refuse(refusal$kind, file, record, text, record = refusal$record)
   }
@@ -69,7 +77,7 @@ fixes_of_tracks <- function(into, tz, crs, said, further = function(record, fixe
   }
   fixes <- read_tracks(into, record)
   table <- table_of_fixes(fixes, record, tz, further(record, fixes))
-  said <- c(vapply(said, as_arguments, "", USE.NAMES = FALSE), if (!is.null(crs)) check_scale(table, crs))
+  said <- c(vapply(said, as_arguments, "", USE.NAMES = FALSE), if (!is.null(crs)) check_scales(table, crs))
   facts <- facts_of_record(record, file.path(into, "split.txt"), tz, crs, said)
   list(fixes = new_fixes(table, facts), said = said, tracks = tracks_named(into, record$tracks$animal, names(facts$fixes)))
 }

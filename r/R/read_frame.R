@@ -1,10 +1,11 @@
 # Reads a data frame, which is written as text for the program: what it is asked, and what is refused, by the rows of the frame.
 
+lost_digits <- "a number that has lost digits"
+help_for_digits <- "read its column as text, as by read.csv(.., colClasses = \"character\")"
+
 # What the program says is to be done with a file, and what with a frame in place of it.
 remedies_of_frames <- c(
-  "write its column as text, before a spreadsheet opens it" =
-    paste("its column was made of numbers: keep them as numbers, if none is above 2^53, or make text by",
-          "format(x, scientific = FALSE)"),
+  "write its column as text, before a spreadsheet opens it" = paste0(help_for_digits, ", or keep them as numbers, if none is above 2^53"),
   "may stand before thousands: export without it" = "may stand before thousands: make numbers of its column, if they are decimals",
   "say so by lon = \"point [^;]*" = "give the points the reference system that they have, as by sf::st_set_crs(x, 4326)"
 )
@@ -35,7 +36,9 @@ read_frame <- function(x, given, folder, has_rows) {
   })
   lost <- if (has_rows) lost_columns(x, sources)
   facts <- facts_of(read$fixes)
-  facts[c("sources", "notes")] <- list(sources, c(facts$notes, lost))
+  # The export that the record of a frame names is the text of it, which nobody has.
+  facts[c("sources", "notes", "is_frame")] <- list(sources, c(facts$notes, lost), TRUE)
+  facts$is_in_order <- identical(rows, seq_len(nrow(x)))
   own <- columns_of(x)[names(columns_of(x)) %in% titles_of_fixes]
   list(fixes = new_fixes(read$fixes, facts), said = c(read$said, lost), tracks = read$tracks,
        frame = list(rows = rows, number = nrow(x), own = own))
@@ -67,15 +70,25 @@ titles_read <- function(x, said) {
 
 check_frame <- function(x, given) {
   if (!is.data.frame(x)) {
-    help <- if (inherits(x, "Spatial")) ": sf::st_as_sf(x) makes one of it" else
-      if (inherits(x, "ltraj")) ": adehabitatLT::ld(x) makes one of it"
-    refuse("empty", "a ", class(x)[1], " is neither a path nor a data frame with a row for each fix", help)
+    refuse("option", "a ", class(x)[1], " is neither a path nor a data frame with a row for each fix: ", help_for_table(x))
   }
   if (is.null(names(x))) refuse("columns", "the data frame has no titles: names(x) <- c(\"animal\", \"time\", ..) gives them")
   if (!nrow(x) || !ncol(x)) refuse("empty", "the data frame has no row of a fix")
   odd <- intersect(options_of_files, names(given))
   if (length(odd)) refuse("option", odd[1], " is for files, and not for a data frame: leave it out")
   if (identical(given$from, "gpx")) refuse("option", "from = \"gpx\" is for files of GPX, and not for a data frame: leave it out")
+}
+
+# How what is no table is made one.
+help_for_table <- function(x) {
+  are_all <- function(is_such) is.list(x) && length(x) > 0 && all(vapply(x, is_such, NA))
+  if (!is.matrix(x) && is.character(x) && length(x) > 1 || are_all(is_text)) return("read each path, as by do.call(rbind, lapply(x, read.csv))")
+  if (inherits(x, "ltraj")) return("make it one, as by adehabitatLT::ld(x)")
+  if (are_all(is.data.frame)) {
+    return(paste0("bind those that are in it, as by do.call(rbind, unname(x))", if (!is.null(names(x)))
+      ", or where its names are those of the animals by do.call(rbind, Map(cbind, animal = names(x), unname(x)))"))
+  }
+  paste("make it one, as by", if (inherits(x, "Spatial")) "sf::st_as_sf(x)" else if (is.matrix(x)) "as.data.frame(x)" else "data.frame(..)")
 }
 
 # The options of a table that says itself which columns have the animal and the time: of move2, or points of fixes that were moved.
@@ -235,8 +248,12 @@ refuse_cell <- function(frame, kind, odd) {
   title <- names(odd)[first]
   class <- odd[[first]]$class
   days <- if (kind == "time") setdiff(titles_of_time(frame), title)
-  refuse_row(frame$x, kind, odd[[first]]$row, paste0(title, " is of the class ", class, ", of which no cell is known: ",
-                                                      remedy_of_class(as.list(frame$x)[[title]], class, days, title)))
+  columns <- as.list(frame$x)
+  is_length <- class == "difftime" && length(days)
+  moment <- if (is_length) moment_of_days(columns[[days[1]]], days[1], c(frame$given$tz, frame$clock$tz, "UTC")[1])
+  row <- if (is_length) first_beyond_day(columns[[title]]) else odd[[first]]$row
+  refuse_row(frame$x, kind, row, paste0(title, " is of the class ", class, ", of which no cell is known: ",
+                                        remedy_of_class(columns[[title]], class, days, title, moment)))
 }
 
 # The titles of columns that were named as the time.
@@ -267,6 +284,7 @@ refuse_frame <- function(frame, refusal, folder) {
     text <- sub(": coordinates in metres are named by .*", remedy_of_metres, text)
   }
   if (grepl("both fit the time: |and not a time ", text)) text <- with_remedy_of_moments(text, frame)
+  text <- with_help(text, frame)
   refuse_row(frame$x, refusal$kind, refusal$record, paste0(of_frame(text, frame$x), remedy_of_fixes(frame$x, refusal)))
 }
 
@@ -316,7 +334,8 @@ row_named <- function(x, at) {
 clock_of_frame <- function(x, given, titles = readable(names(x))) {
   if (!is.null(given$tz)) return(NULL)
   is_time <- vapply(as.list(x), is_of_moments, NA) & readable(names(x)) %in% titles
-  zones <- vapply(as.list(x)[is_time], zone_of_times, "")
+  turned <- if (any(is_time)) with_days(as.list(x), given)
+  zones <- vapply(which(is_time), function(at) zone_of_column(as.POSIXct(as.list(x)[[at]]), turned[[at]]), "")
   if (length(unique(zones)) > 1) {
     return(list(line = paste0("days and hours are those of UTC, since times are of ", paste(sort(unique(zones)), collapse = ", "))))
   }
@@ -327,6 +346,9 @@ clock_of_frame <- function(x, given, titles = readable(names(x))) {
   }
   list(tz = zones[[1]], line = paste0("days and hours are those of ", zones[[1]], ", the zone of ", column))
 }
+
+# The zone of a column of moments: where it is turned into days that in which these are midnights.
+zone_of_column <- function(column, turned) if (inherits(turned, "Date")) zone_of_days(column) else zone_of_times(column)
 
 # The zone of date-times. What R has without one is by the clock of the session.
 zone_of_times <- function(times) {

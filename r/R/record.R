@@ -3,8 +3,6 @@
 
 kinds_of_lines <- c("export", "sha256", "unit", "zone", "shift", "crs", "option", "said", "left", "track", "tool")
 single_lines <- kinds_of_lines[1:6]
-reasons_of_all <- c("animal", "coordinates", "zero", "sensor", "outlier", "class", "no dop", "dop", "type", "before", "after",
-                    "grid", "speed", "months", "hours", "every", "use", "chosen")  # use is of old records
 
 # Texts as they were before signs of control and separators of lines were escaped.
 unescaped <- function(texts, form = "\\\\(x(?:[0189][0-9a-f]|7f)|u202[89])") {
@@ -85,9 +83,6 @@ code_of_record <- function(record) {
   if (!is.null(record$zone)) return(code_of_zone(record$zone))
   if (isTRUE(grepl("^[A-Za-z]+:[A-Za-z0-9]+ [(]", record$crs))) sub(" [(].*", "", record$crs)
 }
-
-# What the fixes were in.
-source_of <- function(record) if (is.null(record$export)) "data" else "export"
 
 # Refuses tracks in a folder that are not those of their record, by the checksums of files in the folder above.
 check_record <- function(record, folder, sums) {

@@ -5,10 +5,11 @@ in_seconds <- "as.numeric(x, units = \"secs\") makes seconds of it, in a column 
 in_clocks <- "hms::as_hms("
 makes_clocks <- ") makes clocks of it, which stand beside days"
 
-# What to do with a column of a class: numbers alone may be other ones than they seem. Lengths of time beside days are parts of times.
-remedy_of_class <- function(column, class, days = NULL, title = NULL) {
+# What to do with a column of a class: numbers alone may be other ones than they seem. Lengths of time beside days are parts of times:
+# the first of these days makes a moment, as it is said.
+remedy_of_class <- function(column, class, days = NULL, title = NULL, moment = NULL) {
   if (class == "difftime" && length(days)) {
-    return(paste0("as.POSIXct(x[[\"", days[1], "\"]]) + x[[\"", title, "\"]] makes times of both, in a column that time names alone"))
+    return(paste0(moment, " + x[[\"", title, "\"]] makes times of both, in a column that time names alone"))
   }
   if (class %in% c("Period", "Duration") && length(days)) return(paste0(in_clocks, "as.numeric(x, units = \"secs\")", makes_clocks))
   if (inherits(column, "units")) return(remedy_of_unit(column, length(days) > 0))
@@ -19,6 +20,21 @@ remedy_of_class <- function(column, class, days = NULL, title = NULL) {
     haven_labelled = , haven_labelled_spss = "haven::as_factor(x) makes text of it", chron = , dates = "as.POSIXct(x) makes times of it",
     "make text, numbers or times of it"
   )
+}
+
+# How a column of days is made moments of a zone: R takes text by the clock of the session, and days by UTC.
+moment_of_days <- function(column, title, tz) {
+  own <- paste0("x[[\"", title, "\"]]")
+  if (inherits(column, "POSIXt")) return(own)
+  is_plain <- inherits(column, "Date") || all(is.na(column) | grepl("^[0-9]{4}-[0-9]{2}-[0-9]{2}$", column))
+  if (inherits(column, "Date") && tz != "UTC") own <- paste0("format(", own, ")")
+  paste0("as.POSIXct(", own, ", tz = \"", tz, "\"", if (!is_plain) ", format = ..", ")")
+}
+
+# The first row with a length of time that is none of a day, or else the first with one.
+first_beyond_day <- function(lengths) {
+  seconds <- as.numeric(lengths, units = "secs")
+  c(which(seconds < 0 | seconds >= seconds_of_day), which(!is.na(seconds)))[1]
 }
 
 # What to do with a column of a unit that is no length in metres, and may stand beside days.
@@ -52,11 +68,12 @@ with_remedy_of_moments <- function(text, frame) {
   if (length(titles) < 2) return(text)
   own <- as.list(frame$x)[match(titles, one_line(readable(names(frame$x))))]
   moments <- Filter(is_of_moments, own)
-  whole <- names(Filter(Negate(are_midnights), moments))
+  zones <- lapply(moments, zone_of_days)
+  whole <- names(moments)[vapply(zones, is.null, NA)]
   helps <- if (length(whole) == 1) {
     paste0(whole, " has moments: name it alone, as by time = \"", whole, "\"")
   } else if (!length(both) && length(moments) && !length(whole)) {
-    paste0(names(moments)[1], " has moments: make days of it, as by as.Date(x, tz = \"", zone_of_times(moments[[1]]), "\")")
+    paste0(names(moments)[1], " has moments: make days of it, as by as.Date(x, tz = \"", zones[[1]], "\")")
   }
   if (!is.null(helps)) return(paste0(sub(": (name one|if it is one|write|name) .*", "", text), ": ", helps))
   are_full <- length(moments) > 1 || all(vapply(own, inherits, NA, "Date"))

@@ -9,6 +9,7 @@ end_form <- "(?:^|\n)end,([0-9]+)\n?$"
 longest_end <- 40  # bytes of the last line
 # A row, and those behind it of the same animal, corners and area: its captures are the animal, what stays, and both numbers.
 run_form <- "(?m)^row,([^,\n]++),[0-9]++,[0-9]++(,([0-9]++),([0-9]++)\n)(?:row,\\1,[0-9]++,[0-9]++\\2)*+"
+longest_animal <- 32  # bytes of a name
 most_bytes <- 2^31 - 1  # that R has as one text
 
 # The fields of each kind of line, and how many of them are texts, which stand before the numbers.
@@ -39,7 +40,7 @@ parse_report <- function(text, name = "the report") {
     rows = rows_of_runs(charToRaw(text), runs), corners = table_of_animals(lines, "corner", animals),
     percents = table_of_animals(lines, "percent", animals), overlaps = overlaps_at(lines)
   )
-  check_report(report, count_lines(lines, "box", animals), end, name)
+  check_report(report, table_of_animals(lines, "box", animals), end, name)
   report
 }
 
@@ -165,11 +166,9 @@ overlaps_at <- function(lines) {
 # The place of the animal of each line of a kind: its line stands before.
 animals_at <- function(lines, kind) findInterval(lines$of[[kind]], lines$of$animal)
 
-count_lines <- function(lines, kind, animals) tabulate(animals_at(lines, kind), length(animals))
-
 table_of_animals <- function(lines, kind, animals) cbind(animal = animals[animals_at(lines, kind)], numbers_at(lines, kind))
 
-# Whether the tables have what the animals' lines say.
+# Refuses tables that have not what the animals' lines say, and numbers that do not go together, as homerange of Python does.
 check_report <- function(report, boxes, end, name) {
   refuse_report <- function(...) refuse("report", name, ": ", ...)
   animals <- report$animals$animal
@@ -177,18 +176,81 @@ check_report <- function(report, boxes, end, name) {
   if (number == 0) refuse_report("it has no animals")
   if (number != end) refuse_report("it has ", number, " animals, and its last line says ", end)
   if (anyDuplicated(animals)) refuse_report("an animal is there twice")
+  odd <- c(animals[grepl("[\\x01-\\x1f\\x7f\"]", animals, perl = TRUE, useBytes = TRUE) | nchar(animals, "bytes") > longest_animal], NA)[1]
+  if (!is.na(odd)) refuse_report(odd, " is no name of an animal")
   if (!all(c(report$overlaps$animal, report$overlaps$other) %in% animals)) {
     refuse_report("a line is of an animal that has no line animal")
   }
-  counts <- lapply(report[c("rows", "corners", "percents", "overlaps")], function(table) {
-    tabulate(match(table$animal, animals), number)
-  })
+  if (!is_whole_report(report, boxes)) refuse_report("lines are missing, or there twice")
+  of_first <- function(is_odd, table, why) {
+    at <- which(is_odd)[1]
+    if (!is.na(at)) refuse_report(table$animal[at], ": ", if (is.function(why)) why(table[at, ]) else why)
+  }
+  last <- report$rows[cumsum(report$animals$fixes), ]
+  check_rows(report, of_first)
+  check_corners(report, boxes, last, of_first)
+  check_percents(report, last, of_first)
+  check_overlaps(report, of_first)
+}
+
+# Whether each animal has all of its lines, once and in their order.
+is_whole_report <- function(report, boxes) {
+  animals <- report$animals$animal
+  number <- length(animals)
+  counts <- lapply(report[c("rows", "corners", "percents")], function(table) tabulate(match(table$animal, animals), number))
   fixes <- report$animals$fixes
-  whole <- all(counts$rows == fixes) && identical(report$rows$n, as.numeric(sequence(fixes))) && all(boxes == 1) &&
-    all(counts$corners == report$rows$corners[cumsum(fixes)]) &&
+  levels <- report$percents$level
+  all(counts$rows == fixes) && all(fixes > 0) && identical(report$rows$n, as.numeric(sequence(fixes))) &&
+    identical(boxes$animal, animals) && all(counts$corners == report$rows$corners[cumsum(fixes)]) && all(counts$corners > 0) &&
     identical(report$corners$corner, as.numeric(sequence(counts$corners))) && length(unique(counts$percents)) == 1 &&
-    all(counts$overlaps == number - 1)
-  if (!whole) refuse_report("lines are missing, or there twice")
+    all(counts$percents > 0) && identical(levels, rep(unique(levels), number)) &&
+    identical(report$overlaps$animal, rep(animals, each = number - 1)) &&
+    identical(report$overlaps$other, rep(animals, number)[rep(seq_len(number), number) != rep(seq_len(number), each = number)])
+}
+
+# Refuses the first row whose second or area is less than that of the row before.
+check_rows <- function(report, of_first) {
+  rows <- report$rows
+  falls <- function(values) c(FALSE, diff(values) < 0)
+  of_first((falls(rows$second) | falls(rows$area2)) & rows$n > 1, rows, "seconds or areas fall")
+}
+
+# Refuses the first animal whose corners are not of its box and its last row, or not those of a convex polygon.
+check_corners <- function(report, boxes, last, of_first) {
+  corners <- report$corners
+  rows <- split(seq_along(corners$animal), as_groups(corners$animal))
+  numbers_of <- function(side, action) vapply(rows, function(own) action(side[own]), 0, USE.NAMES = FALSE)
+  has_box <- numbers_of(corners$easting, min) == boxes$west & numbers_of(corners$easting, max) == boxes$east &
+    numbers_of(corners$northing, min) == boxes$south & numbers_of(corners$northing, max) == boxes$north
+  of_first(!has_box, boxes, "the corners are not of the box")
+  is_west <- vapply(rows, function(own) order(corners$easting[own], corners$northing[own])[1] == 1, NA)
+  of_first(!is_west, boxes, "the first corner is not the westernmost")
+  rings <- lapply(rows, function(own) cbind(corners$easting[own], corners$northing[own]))
+  of_first(vapply(rings, doubled_area, 0) != last$area2, last, "the corners are not of the area")
+  of_first(!vapply(rings, is_convex, NA), boxes, "the corners are not those of a convex polygon")
+}
+
+# Refuses the first percent polygon that cannot be one of its level.
+check_percents <- function(report, last, of_first) {
+  percents <- report$percents
+  own <- last[match(percents$animal, last$animal), ]
+  of_first(percents$level < 1 | percents$level > 100 | percents$kept != (percents$level * own$n + 99) %/% 100, percents, function(odd) {
+    sprintf("%.0f fixes are not %.0f percent", odd$kept, odd$level)
+  })
+  is_within <- percents$area2 <= own$area2 & percents$corners > 0 & percents$corners <= percents$kept
+  of_first(!is_within, percents, "no polygon of fixes that are kept")
+  is_other <- percents$corners != own$corners | percents$area2 != own$area2
+  of_first(percents$kept == own$n & is_other, percents, "all are kept, but it is not the last row")
+}
+
+# Refuses the first overlap that is of other fixes than its animal has, or of more.
+check_overlaps <- function(report, of_first) {
+  overlaps <- report$overlaps
+  fixes <- report$animals$fixes[match(overlaps$animal, report$animals$animal)]
+  of_first(overlaps$fixes != fixes | overlaps$count > fixes, overlaps, function(odd) {
+    own <- report$animals$fixes[report$animals$animal == odd$animal]
+    sprintf("%.0f of %.0f fixes, but it has %.0f", odd$count, odd$fixes, own)
+  })
 }
 
 # The counts of overlaps as a matrix, a row and a column for each animal; NA where there is no line.
@@ -201,7 +263,8 @@ put_overlaps <- function(counts, overlaps) {
 }
 
 # The home ranges of a report that was made elsewhere, of its files where they are named, and of the record of these.
-read_report <- function(file, start = NULL, files = NULL, record = NULL) {
+read_report <- function(file, start = NULL, files = NULL, record = NULL, ...) {
+  check_dots(...)
   local_options(file, start, files, record)
   if (!is_text(file)) refuse("option", argument_text("file", file), " is no path")
   if (!is.null(start) && (!inherits(start, "POSIXct") || length(start) != 1 || !is.finite(start))) {
@@ -228,7 +291,10 @@ read_report <- function(file, start = NULL, files = NULL, record = NULL) {
   ranges$record_file <- record
   own <- read_record(record)
   check_record_of(own, ranges)
-  with_record(ranges, own)
+  ranges <- with_record(ranges, own)
+  text <- paste(readLines(record, warn = FALSE, encoding = "UTF-8"), collapse = "\n")
+  ranges$readings <- list(records = text, fixes = sum(own$tracks$records) + sum(own$left$fixes))
+  ranges
 }
 
 # Refuses a record that is not that of a report, or not that of its files, where these are there.
@@ -262,7 +328,8 @@ with_files <- function(ranges, files) {
   ranges$fixes <- do.call(rbind, own)
   ranges$fixes <- cbind(row = seq_len(nrow(ranges$fixes)), ranges$fixes, time = ranges$rows$time)
   unused <- vapply(tracks[place], function(track) sum(!track$used), 0L)
-  ranges$left_out <- data.frame(animal = ranges$animals$animal, reason = rep("use", length(place)), fixes = unused)[unused > 0, ]
+  left_out <- data.frame(animal = ranges$animals$animal, reason = rep("use", length(place)), fixes = unused)[unused > 0, ]
+  if (nrow(left_out)) ranges$left_out <- left_out  # else it is not known: what was left out before is not in the files
   ranges$files <- files
   ranges
 }
@@ -324,14 +391,29 @@ with_record <- function(ranges, record) {
 }
 
 # Writes the report of home ranges, with the names that animals have in files, as the program would of those.
-write_report <- function(x, path) {
-  local_options(x, path)
+write_report <- function(x, path, overwrite = FALSE, ...) {
+  check_dots(...)
+  local_options(x, path, overwrite)
   check_ranges(x)
   check_path(path)
+  check_truth(overwrite, "overwrite")
+  if (!overwrite && is_full(expanded(path)) && !begins_as_report(expanded(path))) refuse_other(path, "is no report")
+  names <- names_of_files(x)
+  write_report_as(x, names, path)
+  for (line in renames_of(x$animals$animal, names)) tell_note(line, "renamed")
+  invisible(path)
+}
+
+# Whether a file begins as a report does.
+begins_as_report <- function(path) {
+  bytes <- readBin(path, "raw", 65536)
+  all(bytes > 0) && grepl("^(unit,dm\n)?animal,[^\n]*,fixes,[0-9]+\n", rawToChar(bytes), useBytes = TRUE)
+}
+
+# Writes the report of home ranges whose animals have these names.
+write_report_as <- function(x, names, path) {
   if (anyNA(x$overlaps)) refuse("option", "x: these are ranges of several reports, whose overlaps are not known")
   animals <- x$animals$animal
-  names <- names_of_files(x)
-  for (line in renames_of(animals, names)) tell_note(line, "renamed")
   tables <- lapply(unclass(x)[c("rows", "corners", "percents")], function(table) split(table, factor(table$animal, animals)))
   lines <- Map(lines_of_animal, names, x$animals$fixes, tables$rows, tables$corners, tables$percents)
   pairs <- which(row(x$overlaps) != col(x$overlaps), arr.ind = TRUE)
@@ -339,7 +421,6 @@ write_report <- function(x, path) {
   one <- pairs[, 1]
   overlaps <- sprintf("overlap,%s,%s,%.0f,%.0f", names[one], names[pairs[, 2]], x$overlaps[pairs], x$animals$fixes[one])
   write_lines(path, c(if (x$unit == "dm") "unit,dm", unlist(lines), overlaps, sprintf("end,%d", length(names))))
-  invisible(path)
 }
 
 # The lines of an animal in a report.

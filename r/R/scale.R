@@ -1,45 +1,57 @@
-# How much greater areas are on the plane of a reference system than on the ground: docs/TABLES.md, Areal scale. The program
-# looks at zones itself.
+# How much greater areas are on the plane of a reference system than on the ground, and how lengths differ there by direction:
+# docs/TABLES.md, Areal scale and Lengths by direction. The program looks at zones itself.
 
-scale_in_the_middle <- 0.9996
-earth_radius <- 6371008.8  # the mean one in metres
-scale_told <- 0.001  # how far an areal scale may be from 1 until it is said
-scale_refused <- 0.01
+scales_told <- c(areas = 0.001, lengths = 0.01)  # how far each may be from 1 until it is said
+scales_refused <- c(areas = 0.01, lengths = 0.1)
 
-# Refuses a reference system on which areas of an animal are wrong by more than 1 %, and says where by more than 0.1 %.
-check_scale <- function(table, crs) {
+step_of_scale <- 100  # metres by which a place is moved on a grid, to see how far it goes on the ground
+axes_of_wgs_84 <- c(6378137, 6356752.314245)  # half the axes of its ellipsoid in metres
+
+help_for_scale <- ": take a zone or a reference system of the place"
+
+# Refuses a reference system on which areas or lengths of an animal are too wrong, and says where they are less so.
+check_scales <- function(table, crs) {
   animal <- factor(table$animal, unique(table$animal))
   means <- lapply(table[c("easting", "northing")], tapply, animal, mean)
-  scales <- mapply(scale_of_crs(crs), means$easting, means$northing)
-  scales[!is.finite(scales)] <- Inf
-  worst <- which.max(abs(scales - 1))
-  away <- scales[[worst]] - 1
-  name <- levels(animal)[worst]
-  text <- if (is.infinite(away)) paste0("the fixes of ", name, " have no place on this grid") else
-    sprintf("areas of %s are %.2f %% too %s on this grid", name, 100 * abs(away), if (away > 0) "great" else "small")
-  if (abs(away) > scale_refused) refuse("scale", text, ": take a zone or a reference system of the place")
-  if (abs(away) > scale_told) text
+  away <- mapply(scales_of_crs(crs), means$easting, means$northing) - 1
+  lost <- levels(animal)[!is.finite(colSums(away))]
+  if (length(lost)) refuse("scale", "the fixes of ", lost[1], " have no place on this grid", help_for_scale)
+  unlist(lapply(rownames(away), function(what) line_of_worst(what, away[what, ], levels(animal))))
 }
 
-# What tells the areal scale of a reference system at a place: how far a metre east and one north go on its ellipsoid.
-scale_of_crs <- function(crs) {
-  major <- as.numeric(crs$SemiMajor)
-  minor <- as.numeric(crs$SemiMinor)
-  ellipsoid <- sprintf("+proj=longlat +a=%.6f +b=%.6f +no_defs", major, minor)
-  step <- 10
+# What is said of the animal whose areas or lengths are most wrong; refused where that is too much.
+line_of_worst <- function(what, away, animals) {
+  place <- which.max(abs(away))
+  worst <- away[[place]]
+  share <- sprintf("%.2f %%", 100 * abs(worst))
+  text <- if (what == "lengths") paste0("lengths of ", animals[place], " differ by up to ", share, " by direction on this grid") else
+    paste0("areas of ", animals[place], " are ", share, " too ", if (worst > 0) "great" else "small", " on this grid")
+  if (abs(worst) > scales_refused[[what]]) refuse("scale", text, help_for_scale)
+  if (abs(worst) > scales_told[[what]]) text
+}
+
+# What tells the scales of a reference system at a place, by how far a step to the east and one to the north go on the ground of its
+# ellipsoid, or of that of WGS 84 where it has a sphere: how many times greater areas are, and how many times longer a length is in
+# the direction in which it is longest than in that in which it is shortest.
+scales_of_crs <- function(crs) {
+  axes <- as.numeric(c(crs$SemiMajor, crs$SemiMinor))
+  ellipsoid <- sprintf("+proj=longlat +a=%.6f +b=%.6f +no_defs", axes[1], axes[2])
+  ground <- if (axes[1] == axes[2]) axes_of_wgs_84 else axes
   function(easting, northing) {
-    around <- cbind(easting + step * c(1, -1, 0, 0), northing + step * c(0, 0, 1, -1))
+    around <- cbind(easting + step_of_scale * c(1, -1, 0, 0), northing + step_of_scale * c(0, 0, 1, -1))
     radians <- sf::sf_project(crs$wkt, ellipsoid, around, keep = TRUE, warn = FALSE) * pi / 180
-    moved <- (radians[c(1, 3), ] - radians[c(2, 4), ]) / (2 * step)
-    moved[, 1] <- (moved[, 1] + pi / (2 * step)) %% (pi / step) - pi / (2 * step)  # over the meridian of 180 degrees
-    latitude <- mean(radians[, 2])
-    squared <- 1 - (minor / major)^2
-    ground <- minor^2 * cos(latitude) / (1 - squared * sin(latitude)^2)^2
-    1 / (ground * abs(det(moved)))
+    if (!all(is.finite(radians))) return(c(areas = Inf, lengths = Inf))
+    moved <- radians[c(1, 3), ] - radians[c(2, 4), ]
+    moved[, 1] <- (moved[, 1] + pi) %% (2 * pi) - pi  # over the meridian of 180 degrees
+    # How far a metre of the grid goes on the ground, in the direction in which it goes farthest and in which it goes least far.
+    goes <- svd(moved %*% diag(metres_of_radian(mean(radians[, 2]), ground)) / (2 * step_of_scale))$d
+    c(areas = 1 / prod(goes), lengths = goes[1] / goes[2])
   }
 }
 
-# The areal scale of UTM at an easting, on the sphere.
-scale_of_zone <- function(easting) {
-  (scale_in_the_middle * cosh((easting - 500000) / (scale_in_the_middle * earth_radius)))^2
+# The metres of a radian along the parallel of a latitude, and along the meridian there, on an ellipsoid of these half axes.
+metres_of_radian <- function(latitude, axes) {
+  squared <- 1 - (axes[2] / axes[1])^2
+  bulge <- 1 - squared * sin(latitude)^2
+  axes[1] * c(cos(latitude) / sqrt(bulge), (1 - squared) / bulge^1.5)
 }

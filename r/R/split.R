@@ -5,9 +5,10 @@
 kinds_of_said <- c(
   "^coordinates are shifted " = "moved", "^coordinates are rounded " = "rounded", "^animal '.*' is named " = "renamed",
   "^(no column has a usual title|times are read as|all fixes are of the sensor|coordinates are those of|columns:|not read:) " = "guessed",
-  "^(UTM coordinates are|longitude and latitude are|days and hours are|points of|groups of the table are) " = "guessed",
+  "^(UTM coordinates are|longitude and latitude are|days and hours are|points of|groups of the table are|ranges are by) " = "guessed",
+  "^groups are not compared: " = "asked",
   "^[0-9]+ records lie in the hour that comes twice in " = "guessed",
-  "[?]$" = "asked", "^areas of .* on this grid$" = "scale", " come before an earlier one: sorted by time$" = "sorted",
+  "[?]$" = "asked", "^(areas|lengths) of .* on this grid$" = "scale", " come before an earlier one: sorted by time$" = "sorted",
   "^[0-9]+ records of .* have the second of the one before.*: kept$" = "same",
   ", (more than the 1048576 that homerange takes|which homerange refuses)$" = "limit"
 )

@@ -4,6 +4,7 @@
 
 system_of_a_site <- "\\b(ENGCRS|ENGINEERINGCRS|LOCAL_CS)\\["
 unit_of_a_site <- "UNIT\\[\"([^\"]*)\",\\s*([-+.0-9eE]+)"
+names_of_metre <- c("metre", "meter", "metres", "meters", "m")  # in small letters
 
 radius_of_earth <- c(6350000, 6400000)  # metres between which that of a body is one of the Earth
 
@@ -18,10 +19,16 @@ is_without_place <- function(crs, name) {
     refuse("crs", name, ": the unit of the coordinates is not the metre but ", found[2], ": turn them into metres first, ",
            if (name == "crs") "and leave crs out" else paste0("as by sf::st_set_geometry(x, sf::st_geometry(x) * ", found[3], ")"))
   }
+  turned <- turned_axes(crs$wkt)
+  if (!is.null(turned)) {
+    own <- sub("^[A-Z_]+\\[\"([^\"]*)\".*", "\\1", crs$wkt)
+    refuse("crs", axes_text(own, turned), ": make eastings and northings of its coordinates, which need no CRS")
+  }
   TRUE
 }
 
-# Whether a reference system that has a place has longitude and latitude. What is no plane in metres either is refused.
+# Whether a reference system that has a place has longitude and latitude. What is no plane of eastings and northings in metres either
+# is refused.
 is_in_degrees <- function(crs, name, coordinates) {
   major <- as.numeric(crs$SemiMajor)
   if (is.finite(major) && !(major > radius_of_earth[1] && major < radius_of_earth[2])) {
@@ -30,10 +37,18 @@ is_in_degrees <- function(crs, name, coordinates) {
   if (isTRUE(sf::st_is_longlat(crs))) return(TRUE)
   has_way <- isTRUE(nzchar(crs$proj4string)) && !grepl("+proj=geocent", crs$proj4string, fixed = TRUE)
   if (!has_way) refuse("crs", "the CRS ", one_line(crs$Name), " is not a plane one in metres: project the points first")
-  unit <- unit_of_plane(crs)
+  wkt <- sf::st_crs(crs$wkt)$wkt  # in its newest form: systems that older versions of sf have written are in another
+  unit <- unit_of_plane(wkt)
+  if (is.null(unit) && is.na(crs$proj4string)) {
+    refuse("crs", "the CRS ", one_line(crs$Name), " has no way to longitude and latitude that sf knows: name another one, such as by its code")
+  }
+  turned <- turned_axes(wkt)
   kind <- "crs"
   why <- if (!is.null(unit)) {
     paste0("the CRS ", one_line(crs$Name), " is in ", unit, " and not in metres")
+  } else if (!is.null(turned)) {
+    name <- sub("EASTING, NORTHING", paste0(toupper(turned), "ING", collapse = ", "), name, fixed = TRUE)
+    axes_text(crs$Name, turned)
   } else if (grepl("Pseudo.Mercator", crs$wkt)) {
     kind <- "scale"
     paste0("areas in the CRS ", one_line(crs$Name), " grow away from the equator")
@@ -42,13 +57,32 @@ is_in_degrees <- function(crs, name, coordinates) {
   FALSE
 }
 
-# The unit of a plane, if it is not the metre, by its name and its factor.
-unit_of_plane <- function(crs) {
-  unit <- crs$units_gdal
-  if (!isTRUE(in_small(unit) %in% c("metre", "meter", "metres", "meters", "m"))) return(unit)
-  axes <- sub(".*CS\\[", "", crs$wkt)
-  factor <- as.numeric(regmatches(axes, regexec("LENGTHUNIT\\[\"[^\"]*\",([-+.0-9eE]+)", axes))[[1]][2])
-  if (!is.na(factor) && factor != 1) paste(unit, "of", format(factor), "m")
+# What the definition of a plane has of each of its two axes, as the group of a form says.
+of_axes <- function(form, wkt) {
+  axes <- sub("(?s)^.*?CS\\[Cartesian,", "", wkt, perl = TRUE)
+  found <- utils::head(regmatches(axes, gregexpr(form, axes))[[1]], 2)
+  sub(paste0(form, ".*"), "\\1", found)
+}
+
+# The unit of a plane, if it is not the metre, by its name and its factor. GDAL itself knows none of projections that its older form
+# of text cannot have, such as Equal Earth.
+unit_of_plane <- function(wkt) {
+  names <- of_axes("LENGTHUNIT\\[\"([^\"]*)\",[-+.0-9eE]+", wkt)
+  factors <- as.numeric(of_axes("LENGTHUNIT\\[\"[^\"]*\",([-+.0-9eE]+)", wkt))
+  are_metres <- in_small(names) %in% names_of_metre
+  odd <- ifelse(are_metres, paste(names, "of", vapply(factors, format, ""), "m"), names)[!are_metres | factors != 1]
+  if (length(odd)) paste(sort(unique(odd), method = "radix"), collapse = ", ")
+}
+
+# Where the axes of a plane go, if one goes west, or one alone south, and so what stands on the map as north and east is another way;
+# NULL else. Around a pole both go south.
+turned_axes <- function(wkt) {
+  ways <- in_small(of_axes("AXIS\\[\"[^\"]*\",\\s*([A-Za-z]+)", wkt))
+  if ("west" %in% ways || sum(ways == "south") == 1) ways
+}
+
+axes_text <- function(name, ways) {
+  paste0("the axes of the CRS ", one_line(name), " go ", paste(ways, collapse = " and "), ", and not east and north")
 }
 
 # The EPSG code of the UTM zone of most points; the word EPSG where none has a place.
@@ -71,7 +105,10 @@ named_crs <- function(crs) {
   if (!has_sf()) refuse("option", "crs: this wants the package sf, which is not installed")
   if (!inherits(crs, "crs") && length(crs) != 1) refuse("crs", argument_text("crs", crs), " names no reference system")
   found <- tryCatch(suppressWarnings(sf::st_crs(crs)), error = function(fault) sf::NA_crs_)
-  if (is.na(found)) refuse("crs", argument_text("crs", crs), " names no reference system")
+  is_zone <- is_text(crs) && grepl("^[0-9]{1,2} ?[NSns]$", crs)
+  if (is.na(found)) {
+    refuse("crs", argument_text("crs", crs), " names no reference system", if (is_zone) paste0(": a zone is named by zone = \"", crs, "\""))
+  }
   found
 }
 

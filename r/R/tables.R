@@ -47,36 +47,52 @@ as.data.frame.home_range <- function(x, row.names = NULL, optional = FALSE, ...,
   first <- intersect(c("animal", "group", "level"), names(table))
   table <- table[c(first, setdiff(names(table), c(first, "first", "last", "left_out")))]
   if (isTRUE(stringsAsFactors)) table$animal <- factor(table$animal, unique(table$animal))
-  if (!is.null(row.names)) row.names(table) <- row.names
-  table
+  if (is.null(row.names)) return(table)
+  if (length(row.names) != nrow(table) || anyNA(row.names) || anyDuplicated(row.names)) {
+    refuse("option", "row.names: a name for each of ", nrow(table), " rows is wanted, and each another")
+  }
+  `row.names<-`(table, row.names)
 }
 
 # How many fixes were left out of the table, by animal and reason.
-homerange_left_out <- function(x) {
+homerange_left_out <- function(x, ...) {
+  check_dots(...)
   check_ranges(x)
   check_whole(x, "what was left out")
-  if (is.null(x$left_out)) refuse("option", "a report does not say what was left out")
+  if (is.null(x$left_out)) {
+    of_parts <- "what was left out of all these ranges is not known: bind their fixes by rbind, and make ranges of these"
+    refuse("option", if (isTRUE(x$is_part)) of_parts else "a report does not say what was left out")
+  }
   table <- x$left_out[order(x$left_out$animal, x$left_out$reason, method = "radix"), ]
   rownames(table) <- NULL
   table
 }
 
 # The table of incremental area analysis.
-homerange_curve <- function(x, area = "ha", units = FALSE) {
+homerange_curve <- function(x, area = "ha", units = FALSE, ...) {
+  check_dots(...)
   check_ranges(x)
   with_groups(x, list2DF(c(as.list(x$rows[c("animal", "n", "time", "corners")]), area_column(x, x$rows$area2, area, units))))
 }
 
-# How many fixes, or which share, of a row's animal lie in the polygon of a column's animal; of several levels a list, and tidy a
-# table with a row for each two animals and level.
-homerange_overlap <- function(x, share = FALSE, levels = 100, tidy = FALSE) {
+# How many fixes, or which share, of a row's animal lie in the polygon of a column's animal, at the level that the columns are titled
+# by; of several levels a list, and tidy a table with a row for each two animals and level.
+homerange_overlap <- function(x, share = FALSE, levels = 100, tidy = FALSE, ...) {
+  check_dots(...)
   check_ranges(x)
   check_truth(share, "share")
   check_truth(tidy, "tidy")
   check_levels(x, levels)
   counts <- lapply(levels, function(level) if (level == 100) x$overlaps else overlaps_at_level(x, level))
   if (tidy) return(with_groups(x, do.call(rbind, Map(tidy_overlaps, counts, levels, list(x$animals$fixes)))))
-  by_level(if (share) lapply(counts, `/`, x$animals$fixes) else counts, levels)
+  if (share) counts <- lapply(counts, `/`, x$animals$fixes)
+  by_level(Map(with_level, counts, levels), levels)
+}
+
+# A matrix of overlaps whose print says of what its rows and its columns are.
+with_level <- function(counts, level) {
+  names(dimnames(counts)) <- c("fixes_of", paste0("in_range_of_", level))
+  counts
 }
 
 # A row for each two animals: how many fixes of the one lie in the polygon of the other.
@@ -109,7 +125,8 @@ overlaps_at_level <- function(ranges, level) {
 }
 
 # The corners of each animal's polygon in metres; of several levels a list.
-homerange_corners <- function(x, levels = 100) {
+homerange_corners <- function(x, levels = 100, ...) {
+  check_dots(...)
   check_ranges(x)
   check_levels(x, levels)
   by_level(lapply(levels, rings_of, ranges = x), levels)
@@ -129,8 +146,8 @@ check_levels <- function(ranges, levels) {
   known <- sort(unique(c(ranges$percents$level, 100)))
   odd <- if (is.numeric(levels) && !is.object(levels)) setdiff(levels, known) else levels
   if (length(odd) || !length(levels)) {
-    refuse("option", argument_text("levels", if (is.numeric(odd)) odd[1] else odd), " is none of these ranges (",
-           paste(known, collapse = ", "), ")")
+    if (is.numeric(odd)) odd <- odd[1]
+    refuse("option", argument_text("levels", odd), " is none of these ranges (", paste(known, collapse = ", "), ")", help_for_level(odd))
   }
   if (anyDuplicated(levels)) refuse("option", "levels: ", levels[duplicated(levels)][1], " is there twice")
   if (any(levels < 100) && is.null(ranges$fixes)) {
@@ -139,11 +156,17 @@ check_levels <- function(ranges, levels) {
 }
 
 check_ranges <- function(x) {
-  if (!inherits(x, "home_range")) refuse("option", "a ", class(x)[1], " has no ranges: home_range makes them")
+  if (inherits(x, "home_range")) return(invisible())
+  are_several <- is.list(x) && length(x) > 0 && all(vapply(x, inherits, NA, "home_range"))
+  is_taken_apart <- is.list(x) && !is.data.frame(x) && all(tables_of_ranges %in% names(x))
+  help <- if (are_several) "bind those that are in it, as by do.call(c, x)" else
+    if (is_taken_apart) "c(NULL, ranges) makes a list of their parts, and rbind(NULL, ranges) ranges" else "home_range makes them"
+  refuse("option", "a ", class(x)[1], " has no ranges: ", help)
 }
 
 # The polygons of levels as a table of sf, a row for each animal and level. Without an area a polygon is a line or a point.
 st_as_sf.home_range <- function(x, levels = NULL, drop_flat = FALSE, area = "ha", units = FALSE, ...) {
+  local_options(x, levels, drop_flat, area, units, ...)
   check_dots(...)
   check_truth(drop_flat, "drop_flat")
   if (is.null(levels)) levels <- levels_of(x)

@@ -30,29 +30,60 @@ rows_to_choose <- function(x) {
 
 # The ranges of those animals whose row is as is asked.
 subset.home_range <- function(x, subset, ...) {
-  check_dots(...)
+  if (...length()) {
+    name <- c(names(match.call(expand.dots = FALSE)$...), "")[1]
+    if (nzchar(name)) refuse_argument(name, "subset")
+    refuse("option", "subset takes one condition: join several by &, as by subset(x, fixes > 30 & hectares_100 > 1)")
+  }
   if (missing(subset)) return(x)
-  chosen_animals(x, eval(substitute(subset), rows_to_choose(x), parent.frame()))
+  asked <- substitute(subset)
+  rows <- rows_to_choose(x)
+  chosen_animals(x, with_columns_known(eval(asked, rows, parent.frame()), all.vars(asked), names(rows)))
 }
 
 filter.home_range <- function(.data, ...) {
   rows <- rows_to_choose(.data)
+  titles <- names(rows)
   rows$.place <- seq_len(nrow(rows))
-  found <- dplyr::filter(rows, ...)$.place
+  found <- with_columns_known(dplyr::filter(rows, ...)$.place, all.vars(substitute(list(...))), titles)
   chosen_animals(.data, rows$.place %in% found)
+}
+
+# Verbs of dplyr that are of tables.
+refuse_verb <- function(...) {
+  refuse("option", "ranges are no table, which ", .Generic, " wants: dplyr::filter(x, ..) chooses among them, and as.data.frame(x) is a table of theirs")
+}
+
+# What an expression with these names makes of the rows of ranges, which have these columns: where it fails since there is nothing of a
+# name, as of the area at a level that was not asked, what there is is said. R says so in the language of the session.
+with_columns_known <- function(found, names, columns) {
+  tryCatch(found, error = function(fault) {
+    said <- c(conditionMessage(fault), if (inherits(fault$parent, "condition")) conditionMessage(fault$parent))
+    is_lost <- gettextf("object '%s' not found", names, domain = "R") %in% said | sprintf("Column `%s` not found in `.data`.", names) %in% said
+    lost <- names[is_lost]
+    if (length(lost)) refuse("option", "subset: there is no column ", lost[1], ": there are ", paste(columns, collapse = ", "))
+    stop(fault)
+  })
 }
 
 chosen_animals <- function(x, chosen) {
   if (!is.logical(chosen) || !length(chosen) %in% c(1, length(x))) {
     refuse("option", "subset: TRUE or FALSE is wanted for each of ", count_of(length(x), "range"))
   }
-  x[rep_len(chosen & !is.na(chosen), length(x))]
+  chosen <- rep_len(chosen & !is.na(chosen), length(x))
+  if (!any(chosen)) refuse("option", "subset: no range is such as is asked")
+  x[chosen]
+}
+
+as.matrix.home_range <- function(x, ...) {
+  refuse("option", "ranges are no matrix: homerange_overlap(x) is one, homerange_corners(x) has those of corners, and summary(x) is ",
+         "a table")
 }
 
 # Whether two are equal, but for what was made of them since, and the calls.
 all.equal.home_range <- function(target, current, ...) {
   if (!inherits(current, "home_range")) return("current is no home range")
-  whole <- function(x) unclass(x)[setdiff(names(unclass(x)), c("cache", "call"))]
+  whole <- function(x) unclass(x)[setdiff(names(unclass(x)), c("cache", "call", "readings"))]
   all.equal(whole(target), whole(current), ...)
 }
 
@@ -69,7 +100,15 @@ st_crs.homerange_fixes <- function(x, ...) crs_or_none(facts_of(x))
 # The exact areas of these polygons.
 st_area.home_range <- function(x, ...) sf::st_as_sf(x, ..., area = "m2", units = TRUE)$area
 
-st_write.home_range <- function(obj, dsn, ...) sf::st_write(sf::st_as_sf(obj), dsn, ...)
+st_write.home_range <- function(obj, dsn, ...) {
+  table <- sf::st_as_sf(obj)
+  flat <- (if (is.null(obj$groups)) table$animal else paste(table$animal, table$group))[table$corners < 3]
+  if (length(flat) && is_text(dsn) && grepl("[.](shp|fgb)$", in_small(dsn))) {
+    refuse("option", dsn, ": such a file has shapes of one kind, and a range of ", flat[1], " has no area: write ",
+           "sf::st_as_sf(x, drop_flat = TRUE), which leaves such out")
+  }
+  sf::st_write(table, dsn, ...)
+}
 st_write.homerange_fixes <- function(obj, dsn, ...) sf::st_write(sf::st_as_sf(obj), dsn, ...)
 
 # A picture of ggplot2: polygons over fixes, or the curves of area.

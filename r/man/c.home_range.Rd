@@ -60,15 +60,21 @@
 \item{deparse.level}{not used.}
 \item{subset}{which animals are taken, by columns of a table with a row for each range: \code{animal}, \code{group} where ranges are
   by groups, \code{fixes}, \code{first}, \code{last}, \code{left_out}, and \code{hectares_95} and the like for each level.}
-\item{value}{names, which are refused: ranges have those of their animals; and ranges of some animals, which are refused too.}
+\item{value}{names, ranges of some animals, or facts, which are all refused: what ranges have goes together.}
 }
 \details{
 Overlaps of animals of different parts are counted from the fixes, as the program counts them; where a part is a report without
-its fixes they are \code{NA}. \code{\link{homerange_evidence}} takes neither, but the ranges of one call or one report.
+its fixes they are \code{NA}. What was left out is that of all parts; where several are of one reading, as those of
+\code{lapply(split(fixes, fixes$animal), home_range)}, it is counted once, and where that is not known, as of animals that were renamed,
+it is missing. \code{NULL} among them is none. Where it is the first, R makes a list of their parts by \code{c(NULL, x)}, which the functions
+of the package refuse; \code{rbind(NULL, x)} binds ranges, so that \code{all <- rbind(all, x)} may begin with \code{all <- NULL}.
+\code{for} goes through the parts of an object, and not through its animals: \code{for (name in names(x))} does, with \code{x[name]} for
+the range of each. \code{\link{homerange_evidence}} takes neither, but the ranges of one call or one report.
 }
 \value{
 An object of class \code{home_range}, as of \code{\link{home_range}}. \code{length} is the number of animals, \code{names} are
-theirs, and \code{as.list}, and so \code{lapply}, has the range of each. \code{filter} is that of dplyr. \code{all.equal} compares what
+theirs, and \code{as.list}, and so \code{lapply}, has the range of each. \code{filter} is that of dplyr, whose other verbs are of tables and
+refuse ranges: \code{as.data.frame(x)} is one. \code{rbind} binds ranges, and \code{dplyr::bind_rows} does not. \code{all.equal} compares what
 ranges have, and neither the calls that made them nor what was made of them since.
 }
 \examples{

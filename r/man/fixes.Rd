@@ -62,10 +62,13 @@
 }
 \details{
 Rows that are taken by \code{[}, \code{subset} or \code{head}, and what \code{merge}, \code{transform}, \code{within}, \code{cbind},
-the verbs of dplyr and tidyr, groups, tibbles and data tables make of them, stay fixes, with what is known of them, as long as they have
+most verbs of dplyr and tidyr, groups, tibbles and data tables make of them, stay fixes, with what is known of them, as long as they have
 the columns of fixes; so do points of sf that were not moved. Of others, as those of \code{data.frame(fixes)}, of \code{aggregate} or
-of a merge of data tables, nothing is known: they are read as any table, whose zone is not known. Fixes that were taken away are counted
-by \code{\link{homerange_left_out}} as \code{chosen}, by the animal that they had when they were read: a fix is there as long as a row
+of a merge of data tables, nothing is known, neither the unit nor the zone nor what was taken away: they are read as any table, whose
+zone is not known. Such are also tables that tidyr makes anew, by \code{unnest} of what \code{nest} made, by \code{pivot_wider}, \code{hoist} and
+\code{separate_wider_delim}, and rows that data.table makes anew, by \code{fixes[, .SD[1:5], by = animal]}, \code{fixes[, .(..)]} and
+\code{rbindlist}. Where the class stays and not what is known, they are refused: \code{read_fixes(as.data.frame(fixes), zone = ..)} reads them anew. Fixes that were taken away
+are counted by \code{\link{homerange_left_out}} as \code{chosen}, by the animal that they had when they were read: a fix is there as long as a row
 has its second and its place, whatever the animal is called now. Where the class stays without a column, as after
 \code{dplyr::rename(fixes, id = animal)}, they are read as a data frame, which is said.
 
@@ -76,7 +79,7 @@ were read: these may be renamed or be there twice.
 
 Fixes whose rows are no longer those that were read, in their order, are read again by the program where ranges are made of them:
 with the unit, the reference system and the zone of their reading, which is that of times whose own was taken away, and with marks such as \code{use} or \code{visible}, and columns
-that were added since and may say which fixes count, such as \code{outlier} or \code{lc}, which are read or refused. Only what is new is said then. \code{read_fixes(fixes, every = "2h")} reads them again by further options; those of
+that were added since and may say which fixes count, such as \code{outlier} or \code{lc}, which are read or refused; other columns that were added are said as not read. Only what is new is said then. \code{read_fixes(fixes, every = "2h")} reads them again by further options; those of
 dilutions of precision, types of fixes, sensors and Argos look at all columns.
 
 \code{print} says what was taken for what, the span in time and place, the reference system and what was left out, and shows the

@@ -21,8 +21,8 @@ home_range(x, levels = c(50, 95, 100), by = NULL, ..., progress = interactive(),
   an \code{sf} table of points, or the name of a file. For \code{print} and \code{format} a home range.}
 \item{levels}{the levels of the percent polygons: 1 to 8 different whole numbers from 1 to 100.}
 \item{by}{of what groups of an animal's fixes ranges are: \code{"year"}, \code{"month"} or \code{"season"}, by the clock of the
-  zone of times; the name of a column of the table, or of the fixes; a vector with a group for each fix, or for each row of \code{x} where that
-  is a data frame that was not read yet; or a function of the fixes that gives one. Moments name groups as their own clock shows
+  zone of times; the name of a column of the table, or of the fixes; a vector with a group for each fix, made of \code{x}, or for each row of \code{x} where
+  that is a data frame that was not read yet; or a function of the fixes that gives one. Moments name groups as their own clock shows
   them, and by days where all are midnights.}
 \item{...}{options of \code{\link{read_fixes}}, where \code{x} was not read yet. For \code{print} and \code{format} none;
   others are refused.}
@@ -37,7 +37,15 @@ programs have other rules; \code{mcp} of the package adehabitatHR often keeps on
 \strong{Groups.} With \code{by} there is a range for each group of an animal's fixes, and tables have a column \code{group} behind
 \code{animal}. A range is named by both, as \code{"Asta 2024-05"}. Seasons are those of meteorology, named by their months
 since north and south name them otherwise, and of a year each: \code{"2024 Mar-May"}, \code{"2023-2024 Dec-Feb"}. What was left out of
-each group is not known, and a page and evidence are of whole ranges.
+each group is not known, and a page and evidence are of whole ranges. Groups that may be one, as \code{"M"} and \code{"m"} or \code{"007"}
+and \code{"7"}, or none, as \code{"NA"}, are asked about as names of animals are. Beside fixes that were read a vector is taken where it is
+known of which fix each value is: where the call makes it of \code{x} alone, as \code{by = format(fixes$time, "\%H")}, where a column of
+\code{x} has its values, and where the fixes are the rows of their table in its order. Others are refused, since fixes are sorted and left
+out: give them to the table or to the fixes as a column, and name it.
+
+\strong{Arguments} that are written as a part of something, such as \code{by = x$season}, and are \code{NULL}, as they are where the name is
+misspelt, are refused here and in the other functions of the package. Written as \code{NULL}, or as a variable that is \code{NULL}, they are
+left out.
 
 \strong{More than 64 animals} are reported by several runs, of groups of 32 animals and of every pair of groups, so
 that every pair of animals is compared.

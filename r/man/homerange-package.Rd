@@ -23,7 +23,8 @@ all this, \code{\link{write_report}} the report, and \code{\link{homerange_evide
 \code{\link{homerange_program}} says which program is run. \code{vignette("homerange")} goes from an export to the share of ranges in a reserve.
 
 The options \code{scipen}, \code{OutDec} and \code{digits} of a session change nothing of what the package reads, says, prints and
-writes.
+writes. The tables and matrices that it answers, such as those of \code{\link{homerange_corners}}, are plain ones, which R prints by
+these options.
 }
 \section{Messages}{
 Each message has the class \code{homerange_note} and another, by which a handler of \code{\link{withCallingHandlers}} can tell
@@ -34,7 +35,7 @@ them apart and \code{suppressMessages(.., classes = "homerange_rounded_note")} c
 \code{homerange_asked_note} \tab a question: something may be other than it was taken for \cr
 \code{homerange_sorted_note}, \code{homerange_same_note} \tab fixes were sorted by time, or have the same second \cr
 \code{homerange_moved_note}, \code{homerange_rounded_note} \tab coordinates were shifted, or rounded \cr
-\code{homerange_scale_note} \tab areas differ on the grid from those on the ground \cr
+\code{homerange_scale_note} \tab areas differ on the grid from those on the ground, or lengths by direction \cr
 \code{homerange_limit_note} \tab the program refuses what follows \cr
 \code{homerange_renamed_note} \tab an animal has another name in files
 }

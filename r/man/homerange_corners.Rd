@@ -3,11 +3,12 @@
 \title{Corners of Polygons}
 \description{The corners of the minimum convex polygons of one level or several, in metres, which takes no other package.}
 \usage{
-homerange_corners(x, levels = 100)
+homerange_corners(x, levels = 100, ...)
 }
 \arguments{
 \item{x}{a home range, from \code{\link{home_range}} or \code{\link{read_report}}.}
 \item{levels}{one level in per cent or several: 100, and of those that \code{home_range} was given.}
+\item{...}{none: others are refused.}
 }
 \details{
 The program's report has the corners of the polygons of all fixes. For a level below 100 the package finds the fixes that the

@@ -3,13 +3,14 @@
 \title{The Table of Incremental Area Analysis}
 \description{The area of an animal's range after each fix (Harris et al. 1990).}
 \usage{
-homerange_curve(x, area = "ha", units = FALSE)
+homerange_curve(x, area = "ha", units = FALSE, ...)
 }
 \arguments{
 \item{x}{a home range, from \code{\link{home_range}} or \code{\link{read_report}}.}
 \item{area}{the unit of areas: \code{"ha"} for a column \code{hectares}, \code{"m2"} for \code{square_metres},
   \code{"km2"} for \code{square_kilometres}.}
 \item{units}{whether areas are of the package units, in a column \code{area}.}
+\item{...}{none: others are refused.}
 }
 \value{
 A data frame with a row for each fix and the columns

@@ -6,10 +6,11 @@ Says of each animal how the area of the polygon of all its fixes grew with their
 analysis, Harris et al. 1990).
 }
 \usage{
-homerange_growth(x)
+homerange_growth(x, ...)
 }
 \arguments{
 \item{x}{a home range, from \code{\link{home_range}} or \code{\link{read_report}}.}
+\item{...}{none: others are refused.}
 }
 \value{
 A data frame with a row for each animal and the columns

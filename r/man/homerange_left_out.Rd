@@ -3,10 +3,11 @@
 \title{Fixes That Were Left Out}
 \description{Counts the rows of a table that are not among the fixes of a home range, by animal and reason.}
 \usage{
-homerange_left_out(x)
+homerange_left_out(x, ...)
 }
 \arguments{
 \item{x}{a home range, from \code{\link{home_range}}, or from \code{\link{read_report}} with files or a record.}
+\item{...}{none: others are refused.}
 }
 \value{
 A data frame with a row for each animal and reason:

@@ -10,7 +10,7 @@ The first of these counts: the file that \code{options(homerange.program = "..."
 \code{HOMERANGE} names; the program that came with the installed package, in its folder \file{bin}, as it does where the package
 was installed from a clone of homerange's repository; \file{release/homerange} of the clone whose folder \file{r} the package was
 loaded from; \code{homerange} on \code{PATH}. The working folder, and folders above it, are never looked in. A program that came
-with the package is held to its checksum at each call. The program \code{homerange-split} is the one that lies beside it.
+with the package is held to its checksum at each call. The programs \code{homerange-split} and \code{homerange-page} are those that lie beside it.
 }
 \value{The path of the program.}
 \section{Errors}{

@@ -17,8 +17,9 @@ made beside the plot or, for more than 40 animals, below it.
 \item{levels}{for a map the level or the levels of the polygons, as \code{\link{homerange_corners}} takes them. Each has a kind of
   line of its own, the same for all animals.}
 \item{animals}{the names of the animals to draw; all, if left out. An animal has its number and its colour in each drawing.}
-\item{over}{for a map an \code{sf} geometry of polygons or lines in the CRS of the fixes, such as the boundary of a reserve. It
-  is drawn in grey, and the map is wide enough for it, unless it is more than six times as wide as all ranges.}
+\item{over}{for a map an \code{sf} geometry of polygons in the CRS of the fixes, or without one where they have none, such as the boundary of a reserve. It is drawn
+  in grey, and the map is wide enough for it, unless it is more than six times as wide as all ranges; where no edge of it is on
+  the map that is said. Points and lines are refused, and left out beside polygons, which is said.}
 \item{label}{what the key calls it.}
 \item{main}{a title.}
 \item{reset}{whether the device gets its margins back. With \code{FALSE} more can be drawn on the plot, such as by
@@ -28,7 +29,8 @@ made beside the plot or, for more than 40 animals, below it.
 \item{share}{whether curves have areas in per cent of the final one of each animal.}
 \item{facets}{whether each animal has a panel of its own.}
 \item{col}{a colour for all, several in turn, or colours with the names of animals.}
-\item{xlab, ylab, xlim, ylim}{words beside the axes, and their limits, on a map in metres; those of the drawing, if left out.}
+\item{xlab, ylab, xlim, ylim}{words beside the axes, and their limits, on a map in metres and upwards, and for dates days or moments;
+  those of the drawing, if left out. Limits between which nothing lies, and those of maps with \code{facets}, are refused.}
 \item{...}{further arguments of \code{\link{title}}: \code{sub}, \code{outer}, \code{family}, and sizes, colours and fonts such
   as \code{cex.main}; others are refused.}
 }

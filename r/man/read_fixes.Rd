@@ -25,7 +25,7 @@ read_fixes(x, ..., quiet = FALSE)
   \item{\code{zone}}{the UTM zone of the coordinates, such as \code{"33N"}; longitude and latitude are projected into it,
     and without it into that of most fixes.}
   \item{\code{crs}}{the reference system of columns in metres, of a data frame or a file, as \code{sf::st_crs} takes it, such as
-    3035. Points of sf bring their own.}
+    3035. Points of sf bring their own. Its axes go east and north; \code{sf::st_transform} turns points of others.}
   \item{\code{since}, \code{until}}{the first and the last time: a day (a \code{Date}, or text such as \code{"2024-05-31"}), a
     \code{POSIXct}, or text such as \code{"2024-05-31 18:00"}. Both are included; a day of \code{until} to its end.}
   \item{\code{every}}{one fix in each piece of time is used: text such as \code{"2h"} or \code{"30min"}, a \code{difftime}, a
@@ -55,7 +55,7 @@ readxl has them, are clocks; a \code{POSIXct} that is midnight of UTC in all row
 are moments whatever their title says, and the time where no title is a usual one and one column alone has some. A \code{move2} table says itself which
 columns have the animal and the time, and an amt track its reference system.
 
-Points of sf have to be of a plane in metres, or in degrees of any geographic system. Points without a reference system, or of the
+Points of sf have to be of a plane of eastings and northings in metres, or in degrees of any geographic system. Points without a reference system, or of the
 system of a site alone, are metres of no known place.
 
 The program lies beside the one that \code{\link{homerange_program}} names.

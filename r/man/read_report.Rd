@@ -3,7 +3,7 @@
 \title{Read a Report of the Program}
 \description{Reads a report that the program \code{homerange} wrote elsewhere, as its own run or as a herd's.}
 \usage{
-read_report(file, start = NULL, files = NULL, record = NULL)
+read_report(file, start = NULL, files = NULL, record = NULL, ...)
 }
 \arguments{
 \item{file}{the name of the report's file.}
@@ -14,6 +14,7 @@ read_report(file, start = NULL, files = NULL, record = NULL)
 \item{record}{the name of their record, \code{split.txt} of \code{homerange-split} or
   \code{\link{homerange_evidence}}. From it is known what was left out and said, the reference system and the shift.
   One of another report, or of other files, is refused.}
+\item{...}{none: others are refused.}
 }
 \details{
 The unit of coordinates is that of the report's first line: decimetres after \code{unit,dm}, else metres. A report alone has no

@@ -3,11 +3,13 @@
 \title{Write a Report}
 \description{Writes the report of home ranges, as the program \code{homerange} writes it.}
 \usage{
-write_report(x, path)
+write_report(x, path, overwrite = FALSE, ...)
 }
 \arguments{
 \item{x}{a home range, from \code{\link{home_range}} or \code{\link{read_report}}.}
-\item{path}{the file, which is written over.}
+\item{path}{the file. A report that was written before is written over.}
+\item{overwrite}{whether a file that is there and no report is written over; else it is refused as \code{homerange_file_error}.}
+\item{...}{none: others are refused.}
 }
 \details{
 Of up to 64 animals it has the bytes that the program writes of files with these fixes and names. Names that no file has are

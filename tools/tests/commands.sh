@@ -27,7 +27,7 @@ fi
 for script in "$top"/test "$tools"/*.sh "$tools"/herd/*.sh "$tools"/*.py "$tools"/herd/*.py "$top/qgis/pack.py"; do
     case ${script#"$tools/"} in
         # These are read by others, and no commands.
-        answers.sh | sources.sh | herd/words.sh | progress.py | */progress.py) continue ;;
+        answers.sh | sources.sh | run.sh | herd/words.sh | progress.py | */progress.py) continue ;;
     esac
     case $script in
         *.py) [ -n "$python" ] || continue ;;

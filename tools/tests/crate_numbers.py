@@ -17,6 +17,7 @@ import by_definition
 
 BYTES = r'b"(?:[^"\\]|\\.)*"'
 ROW = re.compile(r"\((\d+), (\d+), (\d+), (\d+)\)")
+PAIR = re.compile(r"\((\d+), (\d+)\)")
 LIMIT, FIXES = 1 << 27, 1 << 20
 
 
@@ -83,6 +84,31 @@ def wrong_percents(text):
     return wrong, compared
 
 
+def influence(points):
+    """The fix without which the polygon of all others is least, of several the first, and the doubled area of that."""
+    areas = [by_definition.area2(by_definition.wrap(points[:i] + points[i + 1 :])) for i in range(len(points))]
+    return areas.index(min(areas)), min(areas)
+
+
+def pairs_in(text):
+    """The pairs of numbers of a stretch of a source."""
+    return [(int(one), int(other)) for one, other in PAIR.findall(re.sub(r"(?<=\d)_(?=\d)", "", text))]
+
+
+def wrong_influences(text):
+    """Each test of influence that is not by the definition; and how many were compared."""
+    compared, wrong = 0, []
+    for places, expected, name in re.findall(r'\(\s*&\[(.*?)\],\s*(\([\d_, ]+\)),\s*"(.*?)"', text, re.DOTALL):
+        wrong += [name] * ([influence(pairs_in(places))] != pairs_in(expected))
+        compared += 1
+    for mask, found in re.findall(r"\(\s*(0x[\dA-F_]+),\s*\[(.*?)\]", text, re.DOTALL):
+        points = scattered(len(pairs_in(found)) + 1, int(mask, 16))
+        wrong += [(mask, n) for n, pair in enumerate(pairs_in(found), 2) if influence(points[:n]) != pair]
+        compared += len(pairs_in(found))
+    assert compared
+    return wrong, compared
+
+
 def texts_in(text, name):
     """The texts of bytes of a constant of a source."""
     value = re.search(rf"^(?:pub )?const {name}: .*?=\s*(.*?);$", text, re.DOTALL | re.MULTILINE)[1]
@@ -124,6 +150,8 @@ def main():
     crates = pathlib.Path(sys.argv[1])
     wrong, compared = wrong_percents((crates / "test_geometry/src/percents.rt").read_text())
     print(f"{compared - len(wrong)} of {compared} rows of percent polygons agree", *wrong, sep="\n")
+    wrong_fixes, influences = wrong_influences((crates / "test_page_influence/src/influence.rt").read_text())
+    print(f"{influences - len(wrong_fixes)} of {influences} influences agree", *wrong_fixes, sep="\n")
     herd, worked = crates / "test_command/src/herd.rt", crates / "test_doubles/src/tracks.rt"
     made, kept = herd_of(herd.read_text(), worked.read_text())
     print(f"the herd's report is {'' if made == kept else 'not '}by the definitions")
@@ -131,7 +159,7 @@ def main():
     clouds = [[(draw.randrange(4), draw.randrange(4)) for _ in range(7)] for _ in range(60)]
     differing = [points for points in clouds if not are_one(points)]
     print(f"{len(clouds) - len(differing)} of {len(clouds)} clouds have one polygon", *differing, sep="\n")
-    sys.exit(bool(wrong or made != kept or differing))
+    sys.exit(bool(wrong or wrong_fixes or made != kept or differing))
 
 
 if __name__ == "__main__":

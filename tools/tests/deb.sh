@@ -29,10 +29,13 @@ if is_here dpkg-deb 'the Debian package'; then
     fi
     holds 'its program is the released one' cmp deb/root/usr/bin/homerange "$top/release/homerange"
     carried=deb/root/usr/lib/python3/dist-packages/homerange/release
-    holds 'it has the released homerange-split' cmp $carried/homerange-split "$top/release/homerange-split"
-    for page in homerange.1 homerange-split.1; do
-        zcat "deb/root/usr/share/man/man1/$page.gz" >deb/page
-        holds "its page $page of the manual is there" cmp deb/page "$top/docs/$page"
+    for called in $programs; do
+        for file in "$called" "RELEASES${called#homerange}"; do
+            holds "it has the released $file" cmp "$carried/$file" "$top/release/$file"
+        done
+        zcat "deb/root/usr/share/man/man1/$called.1.gz" >deb/page
+        holds "its page of the manual of $called is there" cmp deb/page "$top/docs/$called.1"
+        holds "its command $called is the program" [ "$(unpacked "$called" --version)" = "$("$top/release/$called" --version)" ]
     done
     for page in README.md CHANGELOG.md CITATION.cff SECURITY.md docs/GUIDE.md; do
         holds "its $page is there" cmp "deb/root/usr/share/doc/homerange/$page" "$top/$page"
@@ -41,6 +44,10 @@ if is_here dpkg-deb 'the Debian package'; then
     "$HOMERANGE" "$top/examples/fox.csv" >deb/direct
     unpacked homerange fox.csv >deb/report
     holds 'its program reports' cmp deb/direct deb/report
+    mkdir deb/away/ranges
+    cp deb/report deb/away/ranges/report.txt
+    holds 'homerange-page' unpacked homerange-page ranges
+    holds 'it has made the page' [ -s deb/away/ranges/report.html ]
     holds 'homerange-split' unpacked homerange-split --into tracks export.csv
     "$top/release/homerange-split" --into deb/tracks "$top/examples/export.csv" 2>errors
     holds 'it splits as the released program does' diff -r deb/tracks deb/away/tracks

@@ -121,4 +121,4 @@ if __name__ == "__main__":
     try_all(lambda room: Grid(program, room, ESRI, (460_000, 2_200_000)), of_esri)
     try_all(lambda room: Grid(program, room, LAEA, (100_000, 100_000)), of_laea)
     try_all(lambda room: Grid(program, room, HEIGHTS, (834_000, 6_667_000)), of_heights)
-    try_all(lambda room: Grid(program, room, EQUAL_EARTH, (1_426_600, 1_281_600)), of_equal_earth)
+    try_all(lambda room: Grid(program, room, EQUAL_EARTH, (845_000, 4_715_000)), of_equal_earth)

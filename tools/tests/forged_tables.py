@@ -186,7 +186,7 @@ forgery.sealed("a clock that is a path", "tables, layers and page cannot be made
 forgery.sealed("no clock", "report.html are there, and evidence.txt says that no page was made",
                file="evidence.txt", old="^clock: UTC\n", new="")
 forgery.sealed("a corner of the boundary", PAGE, file="boundary.csv", old=r"^1,([0-9]+)\.", new=r"1,1\1.")
-forgery.sealed("a boundary that is none", "tables, layers and page cannot be made of this folder: boundary.csv is no boundary",
+forgery.sealed("a boundary that is none", "tables, layers and page cannot be made of this folder: boundary.csv: line [0-9]+ is not ring,easting,northing",
                file="boundary.csv", old="^1,", new="one,")
 
 

@@ -67,7 +67,9 @@ changed <- function(...) {
 
 fixes <- read_fixes(told, zone = "33N", quiet = TRUE)
 ranges <- home_range(fixes, 50, quiet = TRUE)
+groups <- rep_len(c("a", "b", "b"), nrow(fixes))
 seconds <- read_fixes(small, unit = "dm", quiet = TRUE)
+in_spain <- transform(told, easting = easting - 562000 + 2900000, northing = northing - 5134000 + 1700000)
 calls <- list(
   all = function() read_fixes(told, zone = "33N"), decimals = function() read_fixes(small, unit = "dm"),
   fixes = function() home_range(fixes), sorted = function() home_range(fixes[order(fixes$easting), ]),
@@ -84,10 +86,22 @@ calls <- list(
   list = function() read_fixes(transform(told, sensor.type = I(as.list(animal)))),
   part = function() read_fixes(transform(told, animal = 1.5)), rows = function() read_fixes(told[0, ]),
   moments = function() read_fixes(transform(told[c("animal", "easting", "northing")], local_time = as.POSIXct(told$timestamp, tz = "UTC")), zone = "33N"),
+  percent = function() home_range(fixes, percent = 95), "list given" = function() home_range(list(5)), sensor = function() read_fixes(told, sensor = "gps"),
+  types = function() read_fixes(transform(told, fixtype = "3D"), fix_type = "3-D"),
+  hours = function() read_fixes(transform(told, timestamp = substr(timestamp, 1, 10), hour = 5)),
+  joined = function() read_fixes(transform(told, timestamp = substr(timestamp, 1, 10), hour = 5), time = c("timestamp", "hour")),
+  commas = function() read_fixes(transform(told, easting = "500000,5")), days = function() read_fixes(transform(told, timestamp = 45352.5)),
+  year = function() read_fixes(transform(told, timestamp = "0024-03-01")), offset = function() read_fixes(told, tz = "UTC+2"),
+  digits = function() read_fixes(transform(told, animal = 2^60)), groups = function() home_range(seconds, by = c("M", "M ", "M", "-")),
   option = function() read_fixes(told, nonsense = 1), zone = function() read_fixes(told, zone = 33), word = function() read_fixes(told, sensor = c("gps", "a,b")),
   files = function() read_fixes(told, encoding = "latin-1"), degrees = function() read_fixes(told, crs = 4326),
-  moon = function() read_fixes(told, crs = "+proj=tmerc +R=1737400 +units=m"), by = function() home_range(fixes, by = "nothing"),
-  season = function() home_range(seconds, by = "season"), parts = function() home_range(seconds, by = c(1, 1.5, 2, 2)),
+  moon = function() read_fixes(told, crs = "+proj=tmerc +R=1737400 +units=m"),
+  lengths = function() read_fixes(in_spain, crs = 3035), world = function() read_fixes(in_spain, crs = "EPSG:6933"),
+  earth = function() read_fixes(in_spain, crs = "ESRI:54009"), turned = function() read_fixes(told, crs = 5513),
+  by = function() home_range(fixes, by = "nothing"), season = function() home_range(seconds, by = "season"), parts = function() home_range(seconds, by = c(1, 1.5, 2, 2)),
+  order = function() home_range(fixes, by = groups), added = function() home_range(changed(exclude = 1, keep = 0)),
+  named = function() home_range(changed(exclude = 1, keep = 0), by = "keep"), ending = function() write_page(ranges, "page.csv"),
+  far = function() homerange_share(ranges, sf::st_as_sfc(sf::st_bbox(c(xmin = 900000, ymin = 5134000, xmax = 901000, ymax = 5135000), crs = 32633))),
   page = function() write_page(ranges, file.path("none", "page.html")), report = function() read_report("none")
 )
 answers <- lapply(calls, answer)

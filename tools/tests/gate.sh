@@ -13,7 +13,7 @@ cat >tools/sources.sh <<'END'
 programs='fox owl'
 sum_sources() { sum="sum of $1"; }
 name_crate() { crate=$1_crate; }
-find_made() { [ ! -e "anew.$1" ]; }
+find_made() { program=release/$1 && [ ! -e "anew.$1" ]; }
 keep_program() { echo "$1 of $sum: $2, $(tail -n 1 "$3")" >>kept; }
 END
 printf '#!/bin/sh\necho "release/${1:-homerange}"\n' >tools/program.sh
@@ -25,6 +25,8 @@ echo 'import sys; print(sys.argv[1:], "8 passed, 0 failed")' >tools/tests/tables
 echo 'import sys; print(sys.argv[1:], "5 passed, 0 failed")' >tools/tests/tables/random_tables.py
 echo 'import sys; print(sys.argv[1:], "6 passed, 0 failed")' >hostile/split_faults.py
 echo 'import sys; print(sys.argv[1:], "7 passed, 0 failed")' >hostile/split_files.py
+echo 'import sys; print(sys.argv[1:], "3 passed, 0 failed")' >hostile/page_faults.py
+echo 'import sys; print(sys.argv[1:], "1 passed, 0 failed")' >hostile/page_files.py
 printf '#!/bin/sh\necho "9 passed, 0 failed"\n' >with/rt
 chmod +x tools/*.sh with/rt
 echo '4 passed, 0 failed' >tools/says
@@ -46,32 +48,39 @@ ends() {
 }
 
 holds 'all parts' says
-holds 'the quick ones come first' ran 'release tools gate built split random faults files allocations'
-holds 'all are counted' ends '43 passed, 0 failed'
+holds 'the quick ones come first' ran 'release tools gate built split random faults files pagefaults pagefiles allocations'
+holds 'all are counted' ends '47 passed, 0 failed'
 printf '%s of sum of %s: crates/%s_crate/out/%s_crate, 9 passed, 0 failed\n' fox fox fox fox owl owl owl owl >wanted
 holds 'the programs of the gate are kept' cmp wanted kept
 holds 'the program homerange-split is called' [ "$(grep -c "^\['release/homerange-split'\]" said)" -eq 4 ]
+holds 'the program homerange-page is called' [ "$(grep -c "^\['release/homerange-page'\]" said)" -eq 2 ]
 for lost in fox owl; do
     touch "anew.$lost"
     holds "without a program $lost of these sources" says
-    holds "the gate comes first: $lost" ran 'release gate tools built split random faults files allocations'
+    holds "the gate comes first: $lost" ran 'release gate tools built split random faults files pagefaults pagefiles allocations'
     rm "anew.$lost"
 done
 holds 'the quick parts alone' says --quick
-holds 'they are these' ran 'release tools split random faults files allocations'
+holds 'they are these' ran 'release tools split random faults files pagefaults pagefiles allocations'
+touch anew.homerange-page
+holds 'without homerange-page' says --quick
+holds 'all else is tested' ran 'release tools split random faults files allocations'
+holds 'its parts are skipped' grep -q '^test: pagefaults and pagefiles: skipped, since there is no homerange-page' said
+holds 'that is counted' ends '33 passed, 0 failed, 1 skipped'
+rm anew.homerange-page
 if [ ! -x /usr/bin/rt ] && [ ! -x /bin/rt ]; then
     holds 'without the toolchain' says_without
-    holds 'all else is tested' ran 'release tools split random faults files allocations'
-    holds 'the gate is skipped' ends '33 passed, 0 failed, 1 skipped'
+    holds 'all else is tested' ran 'release tools split random faults files pagefaults pagefiles allocations'
+    holds 'the gate is skipped' ends '37 passed, 0 failed, 1 skipped'
     holds 'it says why' grep -q '^test: gate: skipped, since there is no rt' said
 fi
 echo '3 passed, 1 failed, 2 skipped' >tools/says
 holds 'a part that fails' is_refused says
-holds 'it is counted' ends '42 passed, 1 failed, 2 skipped'
+holds 'it is counted' ends '46 passed, 1 failed, 2 skipped'
 echo nothing >tools/says
 printf '#!/bin/sh\nexit 3\n' >tools/test.sh
 holds 'a part that is ended' is_refused says
-holds 'it is counted as one' ends '39 passed, 1 failed'
+holds 'it is counted as one' ends '43 passed, 1 failed'
 printf '#!/bin/sh\ncat tools/says\n' >tools/test.sh
 echo changed >release/homerange
 echo '4 passed, 0 failed' >tools/says

@@ -2,9 +2,9 @@
 # each status. The help has to be as narrow, and the version to name the toolchain's logic.
 # shellcheck shell=sh disable=SC2154
 
-for name in homerange homerange-split; do
-    called=${HOMERANGE%/*}/$name
-    is_here "$called" "the manual page and the version of $name" || continue
+for called in $programs; do
+    is_beside "$called" "the manual page and the version of $called" || continue
+    called=${HOMERANGE%/*}/$called
     "$called" --help >help
     holds "the help of $called is within 80 columns" [ -z "$(awk 'length > 80' help)" ]
     "$called" --version >version

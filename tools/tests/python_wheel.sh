@@ -21,7 +21,7 @@ else
     holds 'it is of the machines of the program' [ -f wheel/dist/homerange-1.0.0-py3-none-manylinux_2_34_x86_64.whl ]
     holds 'nothing is left beside the package' is_clean
     if is_here objdump 'the C library that the release needs'; then
-        for file in homerange homerange-split; do
+        for file in $programs; do
             needed=$(objdump -T "$top/release/$file" | grep -o 'GLIBC_[0-9.]*' | sort -V | tail -n 1)
             later=$(printf '%s\n' GLIBC_2.34 "$needed" | sort -V | tail -n 1)
             holds "$file of the release needs no later C library" [ "${needed:+$later}" = GLIBC_2.34 ]
@@ -35,10 +35,15 @@ else
     python3 -m venv --system-site-packages wheel/env
     holds 'the wheel is installed' env PIP_NO_INDEX=1 wheel/env/bin/pip install wheel/dist/*manylinux*.whl
     package=$(installed python -c 'import homerange; print(homerange.__path__[0])')
-    for file in homerange homerange-split SOURCES RELEASES RELEASES-split; do
-        holds "it has $file of the release" cmp "$package/release/$file" "$top/release/$file"
+    holds 'it has SOURCES of the release' cmp "$package/release/SOURCES" "$top/release/SOURCES"
+    for called in $programs; do
+        for file in "$called" "RELEASES${called#homerange}"; do
+            holds "it has $file of the release" cmp "$package/release/$file" "$top/release/$file"
+        done
+        holds "its $called can be run" [ -x "$package/release/$called" ]
+        holds "it has the checksum of $called" \
+            grep -qx "$(sha256sum <"$top/release/$called" | cut -d ' ' -f 1)  release/$called" "$package/release/SHA256SUMS"
     done
-    for file in homerange homerange-split; do holds "its $file can be run" [ -x "$package/release/$file" ]; done
     holds 'it finds homerange-split' [ "$(installed python -c '
 from homerange.program import find_split_program
 print(find_split_program())')" = "$package/release/homerange-split" ]
@@ -96,7 +101,7 @@ assert len(homerange.read_fixes("export.csv")) == 8' "$top/python/tests"
     holds 'that is said' grep -q 'is not the program that this package was built with: install the package again' wheel/said
     python3 -m venv --system-site-packages --clear wheel/env
     holds 'the folder is installed' env PIP_NO_INDEX=1 wheel/env/bin/pip install "$top/python"
-    for file in homerange homerange-split; do
+    for file in $programs; do
         holds "it has $file" cmp "$package/release/$file" "$top/release/$file"
     done
 fi

@@ -30,7 +30,7 @@ else
     python3 "$top/qgis/pack.py" two.zip
     holds 'it is packed as the same bytes' cmp one.zip two.zip
     python3 -m zipfile -e one.zip "$plugins"
-    for file in homerange homerange-split; do
+    for file in $programs; do
         holds "its $file is the released one" cmp "$plugins/homerange/package/release/$file" "$top/release/$file"
     done
     holds 'QGIS takes it' process plugins enable homerange
@@ -56,7 +56,7 @@ else
     sed -n 's/^failed: //p' layers | while read -r said; do holds "the plugin for QGIS: $said" false; done
     holds 'the tests of layers ended' grep -qx '[1-9][0-9]* passed, 0 failed' layers
 
-    for file in homerange homerange-split; do
+    for file in $programs; do
         holds "its $file can be run" [ -x "$plugins/homerange/package/release/$file" ]
         echo >>"$plugins/homerange/package/release/$file"
         holds "another $file is refused" is_refused_with "/$file is not the program that this package was built with" \

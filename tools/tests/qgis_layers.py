@@ -137,6 +137,13 @@ def test_web_mercator_is_refused():
     assert "equator" in line and "Reproject layer" in line and "EPSG:32631" in line, line
 
 
+def test_axes_that_go_west_are_refused():
+    # Westings and southings of South Africa.
+    line = refusal(layer_of([(f"POINT({east} {3_650_000 + east})", "fox") for east in (0, 100, 300)], crs="EPSG:2048"))
+    assert line.startswith("The axes of the layer (EPSG:2048) go west and south, and not east and north: run Reproject layer first"), line
+    assert "EPSG:32733" in line or "EPSG:32734" in line, line
+
+
 def test_several_points_are_refused_and_one_is_taken():
     one = [(text.replace("POINT(", "MULTIPOINT((") + ")", *rest) for text, *rest in square("fox")]
     assert run(layer_of(one, kind="MultiPoint"))[0]["fox", 100]["hectares"] == 1.0

@@ -20,8 +20,6 @@ without_program() {
 rm -rf r_package
 mkdir r_package
 cd r_package || exit 1
-holds 'its template of the page is that of the package for Python' \
-    cmp "$top/r/inst/extdata/page.html" "$top/python/homerange/page.html"
 for layer in ranges fixes; do
     holds "its style of $layer is that of the package for Python" \
         cmp "$top/r/inst/extdata/$layer.qml" "$top/python/homerange/$layer.qml"
@@ -34,7 +32,7 @@ if is_r_ready; then
     holds 'its tests found the program' grep -q 'FAIL 0 | WARN 0 | SKIP 0 ' homerange.Rcheck/tests/testthat.Rout
     mkdir installed
     holds 'the package for R is installed from the clone' R CMD INSTALL --library=installed "$top/r"
-    for file in homerange homerange-split; do
+    for file in $programs; do
         holds "it has the released $file in it" cmp "$top/release/$file" "installed/homerange/bin/$file"
     done
     cat >own.R <<'END'

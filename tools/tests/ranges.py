@@ -11,7 +11,10 @@ from pages import Page, area, share
 
 sys.path.insert(0, str(Path(__file__).resolve().parents[2] / "python"))
 
-from homerange.write.output import cell_text
+
+def cell_text(cell):
+    """The text of a cell of a table, which has an apostrophe before it where a spreadsheet would compute it or hide one."""
+    return cell.removeprefix("'")
 
 
 def read_tracks(path):

@@ -235,7 +235,7 @@ assert {*corners} == {(-300, -400), (-200, -400), (-200, -300)}, [*corners]'
     refuses_ranges 2 'the export and the folder to make are wanted' "$make" "$export"
     refuses_ranges 2 '--depth=9 is no option' "$make" --depth=9 "$export" plan/none
     refuses_ranges 1 'plan/nothing.gpkg cannot be read' "$make" --over plan/nothing.gpkg "$export" plan/none
-    refuses_ranges 2 "tz='Mars' is no time zone" "$make" --clock Mars "$export" plan/none
+    refuses_ranges 2 '--clock Mars is no time zone' "$make" --clock Mars "$export" plan/none
     refuses_ranges 2 'invalid choice' "$make" --unit km "$export" plan/none
     refuses_ranges 1 'plan/nothing.csv cannot be read' "$make" plan/nothing.csv plan/none
     printf '%s\n' animal,second,x a,1,2 >plan/export.csv
@@ -249,7 +249,8 @@ assert {*corners} == {(-300, -400), (-200, -400), (-200, -300)}, [*corners]'
     # The report of a program whose percent polygons are not those of the rule.
     printf '#!/bin/sh\n"%s" "$@" | sed "s/^percent,vixen,50,2,2,0/percent,vixen,50,2,1,0/"\n' "$HOMERANGE" >plan/changing
     chmod +x plan/changing
-    refuses_ranges 1 'the 50 per cent polygon of vixen is not that of the report' \
+    ln -s "$(readlink -f "${HOMERANGE%/*}/homerange-page")" plan/homerange-page
+    refuses_ranges 1 'tracks/vixen.csv: its fixes have another percent polygon than the report says' \
         env HOMERANGE=plan/changing "$make" "$export" plan/none
     holds 'what was there is left' sh -c 'cd plan/first && sha256sum -c --strict SHA256SUMS'
     # One that is ended leaves nothing.

@@ -1,5 +1,5 @@
-# Which program ./homerange and tools/homerange-split run, in a copy of the repository whose `rt` stands in for the
-# toolchain's: it is quick, and a program that it makes only says that it was built.
+# Which program ./homerange, tools/homerange-split and tools/homerange-page run, in a copy of the repository whose `rt` stands
+# in for the toolchain's: it is quick, and a program that it makes only says that it was built.
 # shellcheck shell=sh disable=SC2154,SC2016
 
 rm -rf house stand-in
@@ -16,7 +16,7 @@ esac
 [ "$1" = ci ] || exit 0
 echo "$*" >"$STAND_IN/words"
 [ ! -e "$STAND_IN/fails" ] || { echo 'rt: FAILED: range_plane'; exit 1; }
-for crate in homerange homerange_split; do
+for crate in homerange homerange_split homerange_page; do
     [ -d "crates/$crate" ] || continue
     name=$(echo "$crate" | tr _ -)
     mkdir -p "crates/$crate/out"
@@ -45,12 +45,13 @@ version=$("$HOMERANGE" --version)
 holds 'the release answers at once' answers "$version" ''
 holds 'it answers in a folder of the house' answers "$version" '' house/tools ../homerange
 holds 'it answers in the folder above' answers "$version" '' . house/homerange
-split=tools/homerange-split
-split_version=$("$top/release/homerange-split" --version)
-holds 'the release of homerange-split answers at once' answers "$split_version" '' house $split
-holds 'it answers in the folder above' answers "$split_version" '' . house/$split
-ln -s "$work/house/$split" stand-in/by-link
-holds 'it answers by a link' answers "$split_version" '' . stand-in/by-link
+for called in homerange-split homerange-page; do
+    released=$("$top/release/$called" --version)
+    holds "the release of $called answers at once" answers "$released" '' house "tools/$called"
+    holds "$called answers in the folder above" answers "$released" '' . "house/tools/$called"
+    ln -sf "$work/house/tools/$called" stand-in/by-link
+    holds "$called answers by a link" answers "$released" '' . stand-in/by-link
+done
 printf '%s\n' animal,second,easting,northing a,0,1,1 >one.csv
 rm -rf released cloned built new none
 
@@ -77,10 +78,13 @@ rm -rf house/out
 printf '\n// An edit.\n' >>house/crates/range_plane/src/lib.rt
 holds 'an edit is not answered by the release' answers 'homerange built: --version' 'homerange: homerange proved'
 holds 'what was built answers the next call' answers 'homerange built: --version' ''
-holds 'an edit that homerange-split stands on too' answers 'homerange-split built: --version' \
-    'homerange-split: homerange_split proved' house $split
-holds 'what was built answers the next call' answers 'homerange-split built: --version' '' house $split
-holds 'both are known' [ "$(sed 's/ .*//' house/out/SOURCES | paste -s -d ' ' -)" = 'sources sources-split logic' ]
+for called in homerange-split homerange-page; do
+    holds "an edit that $called stands on too" answers "$called built: --version" "$called: homerange_${called#*-} proved" \
+        house "tools/$called"
+    holds "what was built of $called answers the next call" answers "$called built: --version" '' house "tools/$called"
+done
+all_sources='sources sources-page sources-split logic'
+holds 'all are known' [ "$(sed 's/ .*//' house/out/SOURCES | paste -s -d ' ' -)" = "$all_sources" ]
 holds 'the first is still known' answers 'homerange built: --version' ''
 evidence 'evidence of what was built' built
 holds 'its log' grep -qx 'rt: homerange proved' built/build.log
@@ -108,14 +112,19 @@ rm stand-in/fails house/crates/range_plane/src/lib.rt house/crates/range_words/s
 (cd "$top" && cp --parents crates/range_plane/src/lib.rt crates/range_words/src/version.rt "$work/house")
 rm -rf house/out
 holds 'sources as they were are answered by the release' answers "$version" ''
-echo '// An edit.' >>house/crates/split_words/src/version.rt
-holds 'an edit of homerange-split alone leaves homerange as it is' answers "$version" ''
-holds 'and is not answered by the release' answers 'homerange-split built: --version' 'building the proved program' house $split
-holds 'homerange is not built with it' [ ! -e house/out/homerange ]
-holds 'a release of other sources of homerange-split does not pass' is_refused checked
-(cd "$top" && cp --parents crates/split_words/src/version.rt "$work/house")
-rm -rf house/out
-holds 'its sources as they were are answered by the release' answers "$split_version" '' house $split
+for called in homerange-split homerange-page; do
+    edited=crates/${called#*-}_words/src/version.rt
+    echo '// An edit.' >>"house/$edited"
+    holds "an edit of $called alone leaves homerange as it is" answers "$version" ''
+    holds "it is not answered by the release of $called" answers "$called built: --version" 'building the proved program' \
+        house "tools/$called"
+    holds "homerange is not built with $called" [ ! -e house/out/homerange ]
+    holds "a release of other sources of $called does not pass" is_refused checked
+    (cd "$top" && cp --parents "$edited" "$work/house")
+    rm -rf house/out
+    holds "sources of $called as they were are answered by the release" answers "$("$top/release/$called" --version)" '' \
+        house "tools/$called"
+done
 export HOMERANGE_BUILD=1
 holds 'a build that is asked for' answers 'homerange built: --version' 'building the proved program'
 unset HOMERANGE_BUILD
@@ -129,28 +138,52 @@ rm stand-in/old
 rm -rf house/out
 printf '#!/none\n' >house/release/homerange
 holds 'a release that does not run here' answers 'homerange built: --version' 'the release does not run on this machine'
-holds 'the other program of it does' answers "$split_version" '' house $split
+for called in homerange-split homerange-page; do
+    holds "its $called does" answers "$("$top/release/$called" --version)" '' house "tools/$called"
+done
 holds 'a release with a changed byte does not pass' is_refused checked
 
+# A release that does not have all programs yet: the one that it lacks is built, or else it is said in one line.
+cp "$top/release/homerange" house/release
+rm -rf house/release/homerange-page house/out
+sed -i '/^sources-page /d' house/release/SOURCES
+checked >written 2>told
+holds 'a release without a program does not pass' [ "$?-$(cat written)" = 1- ]
+holds 'it is said which' [ "$(cat told)" = \
+    'release.sh: homerange-page of the release is not that of these sources: tools/release.sh makes it' ]
+holds 'its other programs answer' answers "$version" ''
+(cd house && PATH=/usr/bin:/bin tools/homerange-page --version) >written 2>told
+holds 'the one that it lacks is not answered for' [ "$?-$(cat written)" = 70- ]
+if [ ! -x /usr/bin/rt ] && [ ! -x /bin/rt ]; then
+    holds 'that is one line' [ "$(cat told)" = 'homerange-page: the program cannot be built: rt, the command of the Rattle toolchain, is not on PATH' ]
+fi
+holds 'the one that it lacks is built' answers 'homerange-page built: --version' 'building the proved program' \
+    house tools/homerange-page
+
 # A release that is made anew passes, until a byte of it, of its checksums or of a manual page changes. A program that was
-# built by a toolchain of another logic than the other is built anew.
+# built by a toolchain of another logic than the others is built anew.
 rm -rf house/release
 sed -i 's/^logic .*/logic 1/' house/out/SOURCES
 holds 'a release is made' env PATH="$work/stand-in:$PATH" house/tools/release.sh
 holds 'a release that was made passes' checked
-holds 'it is of both programs' [ "$(sed 's/ .*//' house/release/SOURCES | paste -s -d ' ' -)" = 'sources sources-split logic kit' ]
-for name in homerange homerange-split; do
-    sum=$(sha256sum <"house/release/$name")
-    sources=$(sed -n "s/^sources${name#homerange} //p" house/release/SOURCES)
-    holds "its line of $name" [ "$(cat "house/release/RELEASES${name#homerange}")" = "built: ${sum%% *} 0 $sources" ]
+holds 'it is of all programs' [ "$(sed 's/ .*//' house/release/SOURCES | paste -s -d ' ' -)" = "$all_sources kit" ]
+holds 'its checksums hold' sh -c 'cd house && sha256sum -c --strict release/SHA256SUMS'
+holds 'they are of all programs and their pages' [ "$(wc -l <house/release/SHA256SUMS)" -eq 6 ]
+# A release beside this file with another byte does not pass.
+holds_to() {
+    cp "house/$1" saved
+    sed -i '1 s/$/x/' "house/$1"
+    holds "a release beside a changed $1 does not pass" is_refused checked
+    cp saved "house/$1"
+}
+for called in homerange homerange-split homerange-page; do
+    list=release/RELEASES${called#homerange}
+    sum=$(sha256sum <"house/release/$called")
+    sources=$(sed -n "s/^sources${called#homerange} //p" house/release/SOURCES)
+    holds "its line of $called" [ "$(cat "house/$list")" = "built: ${sum%% *} 0 $sources" ]
+    for file in "release/$called" "$list" "docs/$called.1"; do holds_to "$file"; done
 done
-for file in release/homerange release/homerange-split release/SOURCES release/SHA256SUMS release/RELEASES release/RELEASES-split \
-    docs/homerange.1 docs/homerange-split.1; do
-    cp "house/$file" saved
-    sed -i '1 s/$/x/' "house/$file"
-    holds "a release beside a changed $file does not pass" is_refused checked
-    cp saved "house/$file"
-done
+for file in release/SOURCES release/SHA256SUMS; do holds_to "$file"; done
 holds 'a release as it was passes again' checked
 rm -rf house stand-in
 

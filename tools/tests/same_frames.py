@@ -12,9 +12,11 @@ from pathlib import Path
 TOOLS = Path(__file__).resolve().parents[1]
 sys.path.insert(0, str(TOOLS.parent / "python"))
 
+import geopandas
 import pandas
+from shapely import geometry
 
-from homerange import HomeRangeError, home_range, read_fixes, read_report, write_page
+from homerange import HomeRangeError, home_range, read_fixes, read_report, share_inside, write_page
 from homerange.program import find_program
 
 OWN = ("made: ", "commit: ", "tool,")  # how lines begin that say what made a folder, and when
@@ -55,6 +57,7 @@ def calls_of(told, small):
     moments = told[["animal", "easting", "northing"]].assign(local_time=pandas.to_datetime(told["timestamp"], utc=True))
     when = pandas.to_datetime(told["timestamp"])
     clocks = told.assign(timestamp=when.dt.tz_localize("Asia/Tokyo"), released=when.dt.tz_localize("UTC"))
+    in_spain = told.assign(easting=told["easting"] - 562_000 + 2_900_000, northing=told["northing"] - 5_134_000 + 1_700_000)
     swapped = fixes.assign(easting=fixes["northing"], northing=fixes["easting"])
     return {
         "all": lambda: read_fixes(told, zone="33N"), "decimals": lambda: read_fixes(small, unit="dm"), "fixes": lambda: home_range(fixes),
@@ -67,11 +70,23 @@ def calls_of(told, small):
         "again": lambda: home_range(fixes, zone="33N"), "bound": lambda: pandas.concat([fixes, read_fixes(told, zone="33N", unit="dm")]),
         "list": lambda: read_fixes(told.assign(**{"sensor.type": told["animal"].map(list)})), "rows": lambda: read_fixes(told.head(0)),
         "part": lambda: read_fixes(told.assign(animal=1.5)), "moments": lambda: read_fixes(moments, zone="33N"),
-        "option": lambda: read_fixes(told, nonsense=1), "zone": lambda: read_fixes(told, zone=33),
+        "option": lambda: read_fixes(told, nonsense=1), "percent": lambda: home_range(fixes, percent=95), "list given": lambda: home_range([5]),
+        "sensor": lambda: read_fixes(told, sensor="gps"), "types": lambda: read_fixes(told.assign(fixtype="3D"), fix_type="3-D"),
+        "hours": lambda: read_fixes(told.assign(timestamp=told["timestamp"].str[:10], hour=5)),
+        "joined": lambda: read_fixes(told.assign(timestamp=told["timestamp"].str[:10], hour=5), time=["timestamp", "hour"]),
+        "commas": lambda: read_fixes(told.assign(easting="500000,5")), "days": lambda: read_fixes(told.assign(timestamp=45352.5)),
+        "year": lambda: read_fixes(told.assign(timestamp="0024-03-01")), "offset": lambda: read_fixes(told, tz="UTC+2"),
+        "digits": lambda: read_fixes(told.assign(animal=2.0 ** 60)), "groups": lambda: home_range(seconds, by=["M", "M ", "M", "-"]), "zone": lambda: read_fixes(told, zone=33),
         "word": lambda: read_fixes(told, sensor=["gps", "a,b"]), "files": lambda: read_fixes(told, encoding="latin-1"),
         "degrees": lambda: read_fixes(told, crs=4326), "moon": lambda: read_fixes(told, crs="+proj=tmerc +R=1737400 +units=m"),
+        "lengths": lambda: read_fixes(in_spain, crs=3035), "world": lambda: read_fixes(in_spain, crs="EPSG:6933"),
+        "earth": lambda: read_fixes(in_spain, crs="ESRI:54009"), "turned": lambda: read_fixes(told, crs=5513),
         "by": lambda: home_range(fixes, by="nothing"), "season": lambda: home_range(seconds, by="season"),
         "parts": lambda: home_range(seconds, by=[1, 1.5, 2, 2]), "page": lambda: write_page(ranges, "none/page.html"),
+        "order": lambda: home_range(fixes, by=(["a", "b", "b"] * len(fixes))[:len(fixes)]),
+        "added": lambda: home_range(fixes.assign(exclude=1, keep=0)), "named": lambda: home_range(fixes.assign(exclude=1, keep=0), by="keep"),
+        "ending": lambda: write_page(ranges, "page.csv"),
+        "far": lambda: share_inside(ranges, geopandas.GeoSeries([geometry.box(900_000, 5_134_000, 901_000, 5_135_000)], crs=32633)),
         "report": lambda: read_report("none")}
 
 
@@ -90,7 +105,8 @@ def answer(call):
 def plain(text):
     """A line of either language, without what each has by its own syntax."""
     text = re.sub(r" \((frame[.]iloc\[[0-9]+\]|x\[[0-9]+, \])\)", "", text.replace('"', "'").replace(" = ", "="))
-    return re.sub(": (make times of them|leave fixes without|project it|make it one).*", "", text)
+    text = re.sub("(?<= as by )(frame|x|pandas|fixes|data|as|read|format)[.[($].*", "..", text)
+    return re.sub(": (make times of them|leave fixes without|project it|make it one|make points of|sf::st_transform).*", "", text)
 
 
 def other_answers(folder):

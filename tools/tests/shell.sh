@@ -2,7 +2,7 @@
 # shellcheck shell=sh disable=SC2154
 
 if is_here shellcheck 'the scripts in shell'; then
-    for script in "$top/homerange" "$tools/homerange-split" "$top/test" "$top/.ci/run" "$tools"/*.sh "$tools"/*/*.sh; do
+    for script in "$top/homerange" "$tools"/homerange-* "$top/test" "$top/.ci/run" "$tools"/*.sh "$tools"/*/*.sh; do
         holds "shellcheck of ${script#"$top/"}" shellcheck -x -P "$top" "$script"
     done
 fi

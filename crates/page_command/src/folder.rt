@@ -18,7 +18,7 @@ pub(crate) struct FolderFiles {
     pub report: Vec<u8>,
     pub record: Option<Vec<u8>>,
     pub boundary: Option<Vec<u8>>,
-    /// None where there is no folder of tracks.
+    /// None where there are no tracks.
     pub tracks: Option<Vec<Track>>,
 }
 
@@ -42,6 +42,14 @@ fn bytes_if_there<R: Files + AllocGlobal>(rt: &R, path: &str) -> Result<Option<V
     match fs::read(rt, path) {
         Ok(bytes) => Ok(Some(bytes)),
         Err(error) => Err(unread(alloc, path, &error)),
+    }
+}
+
+// That a path is no folder.
+fn no_folder(alloc: Global, path: &str) -> Stop {
+    match format!(in alloc; "{path}: it is no folder: put the folder itself there") {
+        Ok(text) => Stop::Folder(text),
+        Err(_no_memory) => Stop::OutOfMemory,
     }
 }
 
@@ -107,14 +115,35 @@ fn tracks_of<R: Files + AllocGlobal>(
     Ok(tracks)
 }
 
-// The tracks of a folder, if it is there.
+// Tracks, if there are some.
+fn some(tracks: Vec<Track>) -> Option<Vec<Track>> {
+    if tracks.is_empty() {
+        None
+    } else {
+        Some(tracks)
+    }
+}
+
+// Whether a folder is at a path, and no link to one.
+fn is_folder<R: Files + AllocGlobal>(rt: &R, path: &str) -> Result<bool, Stop> {
+    match fs::symlink_metadata(rt, path) {
+        Ok(found) if found.is_dir() => Ok(true),
+        Ok(_other) => Err(no_folder(rt.alloc(), path)),
+        Err(error) if error.kind() == ErrorKind::NotFound => Ok(false),
+        Err(error) => Err(unread(rt.alloc(), path, &error)),
+    }
+}
+
+// The tracks of a folder, if it is there and has some.
 fn tracks_in<R: Files + AllocGlobal + Clone + Drop>(
     rt: &R,
     path: &str,
 ) -> Result<Option<Vec<Track>>, Stop> {
+    if !is_folder(rt, path)? {
+        return Ok(None);
+    }
     match names_in(rt, path) {
-        Ok(names) => Ok(Some(tracks_of(rt, path, &names)?)),
-        Err(error) if error.kind() == ErrorKind::NotFound => Ok(None),
+        Ok(names) => Ok(some(tracks_of(rt, path, &names)?)),
         Err(error) => Err(unread(rt.alloc(), path, &error)),
     }
 }
@@ -133,10 +162,11 @@ pub(crate) fn read_folder<R: Files + AllocGlobal + Clone + Drop>(
     let record = format!(in alloc; "{folder}/tracks/split.txt")?;
     let boundary = format!(in alloc; "{folder}/boundary.csv")?;
     let tracks = format!(in alloc; "{folder}/tracks")?;
+    let tracks = tracks_in(rt, &tracks)?;
     Ok(FolderFiles {
         report: bytes_of(rt, &report)?,
         record: bytes_if_there(rt, &record)?,
         boundary: bytes_if_there(rt, &boundary)?,
-        tracks: tracks_in(rt, &tracks)?,
+        tracks,
     })
 }

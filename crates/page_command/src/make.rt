@@ -40,6 +40,7 @@ fn words_of<'a>(words: &'a PageWords<'a>, clock: &'a Clock) -> Words<'a> {
         shift: words.shift,
         differences: words.differences,
         is_alone: words.is_alone,
+        is_data: words.is_data,
     }
 }
 

@@ -8,7 +8,7 @@ use std::io;
 use std::io::{ErrorKind, Write};
 
 // What is said where there is no memory.
-const NO_MEMORY: &[u8] = b"page: not enough memory\n";
+const NO_MEMORY: &[u8] = b"homerange-page: not enough memory\n";
 
 /// Why nothing is written.
 #[derive(Drop)]
@@ -93,7 +93,7 @@ pub(crate) fn unwritten(alloc: Global, path: &str, error: &io::Error) -> Stop {
 // The line of a reason.
 fn line_of(alloc: Global, text: &str) -> Result<String, AllocError> {
     let shown = OneLine::plain(text);
-    format!(in alloc; "page: {shown}\n")
+    format!(in alloc; "homerange-page: {shown}\n")
 }
 
 // Says a reason. Who does not take it cannot be told so.

@@ -26,6 +26,8 @@ pub struct Words<'a> {
     pub differences: Option<Differences>,
     /// Whether the page is handed in without its folder.
     pub is_alone: bool,
+    /// Whether the export of the record is a table of data in memory, which nobody has.
+    pub is_data: bool,
 }
 
 /// The bytes of the files of a folder.

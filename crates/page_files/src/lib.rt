@@ -2,11 +2,14 @@
 #![tactic(auto)]
 
 mod agree;
+mod beside;
 mod drawn;
 mod fault;
 mod given;
+mod known;
 mod made;
 mod page;
+mod sound;
 mod told;
 mod tracks;
 

@@ -6,18 +6,20 @@ ghost use Rattle.page_tables.specs.Overlaps.{overlaps};
 ghost use Rattle.page_tables.specs.Summary.{summary};
 
 use crate::agree::check_agrees;
+use crate::beside::check_words;
 use crate::fault::{PageFault, record_fault, refused, report_fault};
 use crate::given::{Given, Words};
+use crate::known::known_of;
 use crate::page::page_of;
-use crate::told::{reasons_of, tally_of, told_of_all};
+use crate::sound::check_sound;
+use crate::told::{causes_of, told_of_all};
 use page_boundary::{BoundaryFault, read_boundary};
 use page_facts::are_dates;
 use page_map::Ground;
 use page_record::{Record, read_record};
 use page_report::{Report, read_report};
-use page_sections::{Shown, Source, reason_word};
+use page_sections::{Cause, Shown, Source, cause_word};
 use page_tables::{push_animals, push_overlaps, push_summary};
-use split_tracks::Reason;
 use std::alloc::{AllocError, Global};
 
 /// The tables and the page of a folder.
@@ -29,13 +31,26 @@ pub struct Files {
     pub page: Vec<u8>,
 }
 
+// The record without its export, if tracks were made of data in memory, whose table nobody has.
+fn without_table(mut record: Record, is_data: bool) -> Record {
+    if is_data {
+        record.export = None;
+        record.sum = None;
+    }
+    record
+}
+
 // The record, read, if there is one.
-fn record_of(alloc: Global, text: Option<&[u8]>) -> Result<Option<Record>, PageFault> {
+fn record_of(
+    alloc: Global,
+    text: Option<&[u8]>,
+    is_data: bool,
+) -> Result<Option<Record>, PageFault> {
     let Some(text) = text else {
         return Ok(None);
     };
     match read_record(alloc, text) {
-        Ok(record) => Ok(Some(record)),
+        Ok(record) => Ok(Some(without_table(record, is_data))),
         Err(fault) => Err(record_fault(alloc, fault)),
     }
 }
@@ -72,11 +87,11 @@ fn source_of(record: Option<&Record>) -> Source {
     }
 }
 
-// The words of reasons.
-fn words_of(alloc: Global, reasons: &[Reason]) -> Result<Vec<&'static [u8]>, AllocError> {
+// The words of causes.
+fn words_of(alloc: Global, causes: &[Cause]) -> Result<Vec<&'static [u8]>, AllocError> {
     let mut words = Vec::new(alloc);
-    for reason in reasons {
-        words.push(reason_word(*reason))?;
+    for cause in causes {
+        words.push(cause_word(*cause))?;
     }
     Ok(words)
 }
@@ -101,9 +116,9 @@ fn overlaps_of(alloc: Global, report: &Report) -> Result<Vec<u8>, AllocError>
 
 // The table of animals.
 fn animals_of(alloc: Global, shown: &Shown) -> Result<Vec<u8>, AllocError> {
-    let reasons = words_of(alloc, shown.reasons)?;
+    let words = words_of(alloc, shown.causes)?;
     let mut text = Vec::new(alloc);
-    push_animals(&mut text, shown.report, &reasons, shown.told)?;
+    push_animals(&mut text, shown.report, &words, shown.told)?;
     Ok(text)
 }
 
@@ -115,13 +130,13 @@ fn rest_of<'a>(
     words: &'a Words<'a>,
     record: Option<&'a Record>,
 ) -> Result<(Vec<u8>, Vec<u8>), PageFault> {
-    let tally = tally_of(alloc, record)?;
-    let reasons = reasons_of(alloc, report, &tally)?;
-    let told = told_of_all(alloc, report, &tally, &reasons)?;
+    let known = known_of(alloc, report, record, given.tracks)?;
+    let causes = causes_of(alloc, report, &known)?;
+    let told = told_of_all(alloc, report, &known, &causes)?;
     let shown = Shown {
         report,
         told: &told,
-        reasons: &reasons,
+        causes: &causes,
         source: source_of(record),
         dated: are_dates(report),
         clock: words.clock,
@@ -129,7 +144,7 @@ fn rest_of<'a>(
     };
     let rings = rings_of(alloc, given.boundary)?;
     let boundary = rings.as_deref();
-    let page = page_of(alloc, &shown, given, words, record, &tally, boundary)?;
+    let page = page_of(alloc, &shown, given, words, record, &known, boundary)?;
     Ok((animals_of(alloc, &shown)?, page))
 }
 
@@ -143,7 +158,9 @@ pub fn files_of(alloc: Global, given: &Given, words: &Words) -> Result<Files, Pa
     ensures overlaps { IfOk result (λ files. option_map overlaps (found_in (report_of given.now.report.now)) ≡ Some files.overlaps.items) }
 {
     let report = report_of(alloc, given.report)?;
-    let record = record_of(alloc, given.record)?;
+    let record = record_of(alloc, given.record, words.is_data)?;
+    check_words(alloc, given, words, record.as_ref())?;
+    check_sound(alloc, &report)?;
     check_agrees(alloc, &report, record.as_ref())?;
     let (animals, page) = rest_of(alloc, &report, given, words, record.as_ref())?;
     Ok(Files {

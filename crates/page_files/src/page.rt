@@ -1,24 +1,18 @@
 // The page of a folder.
 
+use crate::beside::are_of_zone;
 use crate::drawn::drawn_of;
 use crate::fault::{PageFault, refused};
 use crate::given::{Given, Words};
-use crate::told::{Tally, lefts_of_all, totals_of, unused_of};
+use crate::known::Known;
+use crate::told::{lefts_of_all, totals_of, unused_of};
 use page_ground::{Differences, differences_of, push_system};
 use page_html::{Page, push_page};
 use page_map::{Ground, Plane, Shape};
 use page_record::{Record, system_of};
 use page_sections::Shown;
-use sha2::{Digest, Sha256};
+use split_record::sum_of;
 use std::alloc::{AllocError, Global};
-
-// The SHA-256 checksum of some bytes, in 64 digits.
-fn sum_of(bytes: &[u8]) -> [u8; 64] {
-    let digest = Sha256::digest(bytes);
-    let mut digits = [0; 64];
-    hex::encode_to_slice(digest, &mut digits).unwrap();
-    digits
-}
 
 // The reference system of coordinates, as it is written.
 fn system_text(
@@ -68,17 +62,19 @@ fn plane_of(
 
 // By how much areas on the grid differ from those on the ground.
 fn differences(
+    alloc: Global,
     words: &Words,
     record: Option<&Record>,
     plane: Plane,
     shapes: &[Shape],
-) -> Option<Differences> {
-    let zone = record.and_then(|record| record.zone);
-    match (words.differences, words.system, zone) {
-        (Some(own), _, _) => Some(own),
-        (None, None, Some(_zone)) => differences_of(plane, shapes),
-        _ => None,
+) -> Result<Option<Differences>, AllocError> {
+    if words.differences.is_some() {
+        return Ok(words.differences);
     }
+    if are_of_zone(alloc, words, record)? {
+        return Ok(differences_of(plane, shapes));
+    }
+    Ok(None)
 }
 
 // The page of what is shown.
@@ -88,19 +84,19 @@ pub(crate) fn page_of(
     given: &Given,
     words: &Words,
     record: Option<&Record>,
-    tally: &Tally,
+    known: &Known,
     boundary: Option<&[Vec<Ground>]>,
 ) -> Result<Vec<u8>, PageFault> {
     let drawn = drawn_of(alloc, shown.report, given.tracks)?;
     let plane = plane_of(alloc, shown, words, record)?;
     let system = system_text(alloc, words, record)?;
-    let unused = unused_of(alloc, shown.report, tally)?;
-    let left = lefts_of_all(alloc, record)?;
+    let unused = unused_of(alloc, shown.report, known)?;
+    let left = lefts_of_all(alloc, shown.report, known)?;
     let sum = sum_of(given.report);
     let page = Page {
         shown: *shown,
         record,
-        totals: totals_of(record, &left),
+        totals: totals_of(known, &left),
         unused: &unused,
         shapes: &drawn.shapes,
         levels: &drawn.levels,
@@ -108,7 +104,7 @@ pub(crate) fn page_of(
         plane,
         boundary,
         system: &system,
-        differences: differences(words, record, plane, &drawn.shapes),
+        differences: differences(alloc, words, record, plane, &drawn.shapes)?,
         report_sum: if words.is_alone { None } else { Some(&sum) },
         words: words.page,
         made: words.made,

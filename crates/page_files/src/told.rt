@@ -1,89 +1,74 @@
 // What is told of each animal, and of all.
 
-use indexmap::IndexMap;
+use crate::known::{Known, Tally};
 use page_facts::facts_of;
-use page_record::{Counts, Record, left_of_all, place_in, records_of_all, tally};
 use page_report::{ReadAnimal, Report};
-use page_sections::{Totals, Unused};
+use page_sections::{Cause, Totals, Unused};
 use page_tables::Told;
-use range_plane::OutOfMemory;
 use split_counts::ALL_REASONS;
-use split_tracks::Reason;
 use std::alloc::{AllocError, Global};
 
-// The counts of a record by animals.
-pub(crate) type Tally = IndexMap<Vec<u8>, Counts>;
-
-// A number of 64 bits; none that a record of so many records comes to is greater.
-fn short(number: u128) -> u64 {
-    u64::try_from(number).unwrap_or(u64::MAX)
-}
-
-// The counts of a record by animals; those of no animal where there is no record.
-pub(crate) fn tally_of(alloc: Global, record: Option<&Record>) -> Result<Tally, OutOfMemory> {
-    match record {
-        Some(record) => tally(alloc, record),
-        None => Ok(IndexMap::new(alloc)),
+// Why fixes may have been left out, in the order in which it is told.
+fn all_causes(alloc: Global) -> Result<Vec<Cause>, AllocError> {
+    let mut causes = Vec::new(alloc);
+    for reason in ALL_REASONS {
+        causes.push(Cause::Made(reason))?;
     }
+    causes.push(Cause::Use)?;
+    Ok(causes)
 }
 
-// How many fixes of an animal were left out for a reason.
-fn left_of(tally: &Tally, animal: &[u8], reason: Reason) -> u64 {
-    match tally.get(animal) {
-        Some(counts) => short(counts.left.get(place_in(reason)).copied().unwrap_or(0)),
-        None => 0,
-    }
-}
-
-// Whether fixes of an animal of a report were left out for a reason.
-fn occurs(report: &Report, tally: &Tally, reason: Reason) -> bool {
+// Whether fixes of an animal of a report were left out for a cause.
+fn occurs(report: &Report, known: &Known, cause: Cause) -> bool {
     report
         .animals
         .iter()
-        .any(|animal| left_of(tally, &animal.name, reason) > 0)
+        .enumerate()
+        .any(|(place, animal)| known.left_of(place, animal, cause) > 0)
 }
 
-// The reasons for which fixes of animals of a report were left out, in their order.
-pub(crate) fn reasons_of(
+// Why fixes of animals of a report were left out.
+pub(crate) fn causes_of(
     alloc: Global,
     report: &Report,
-    tally: &Tally,
-) -> Result<Vec<Reason>, AllocError> {
-    let mut reasons = Vec::new(alloc);
-    for reason in ALL_REASONS {
-        if occurs(report, tally, reason) {
-            reasons.push(reason)?;
+    known: &Known,
+) -> Result<Vec<Cause>, AllocError> {
+    let mut causes = Vec::new(alloc);
+    for cause in all_causes(alloc)? {
+        if occurs(report, known, cause) {
+            causes.push(cause)?;
         }
     }
-    Ok(reasons)
+    Ok(causes)
 }
 
-// How many fixes of an animal were left out for each of some reasons.
+// How many fixes of an animal were left out for each of some causes.
 fn lefts_of(
     alloc: Global,
-    tally: &Tally,
-    animal: &[u8],
-    reasons: &[Reason],
+    known: &Known,
+    place: usize,
+    animal: &ReadAnimal,
+    causes: &[Cause],
 ) -> Result<Vec<u64>, AllocError> {
     let mut left = Vec::new(alloc);
-    for reason in reasons {
-        left.push(left_of(tally, animal, *reason))?;
+    for cause in causes {
+        left.push(known.left_of(place, animal, *cause))?;
     }
     Ok(left)
 }
 
-// What is told of an animal.
+// What is told of the animal at a place.
 fn told_of(
     alloc: Global,
-    tally: &Tally,
+    known: &Known,
+    place: usize,
     animal: &ReadAnimal,
-    reasons: &[Reason],
+    causes: &[Cause],
 ) -> Result<Told, AllocError> {
-    let records = tally.get(animal.name.as_slice());
     Ok(Told {
         facts: facts_of(alloc, animal)?,
-        records: records.map(|counts| short(counts.records)),
-        left: lefts_of(alloc, tally, &animal.name, reasons)?,
+        records: known.records_of(place, animal),
+        left: lefts_of(alloc, known, place, animal, causes)?,
     })
 }
 
@@ -91,41 +76,33 @@ fn told_of(
 pub(crate) fn told_of_all(
     alloc: Global,
     report: &Report,
-    tally: &Tally,
-    reasons: &[Reason],
+    known: &Known,
+    causes: &[Cause],
 ) -> Result<Vec<Told>, AllocError> {
     let mut told = Vec::new(alloc);
-    for animal in &report.animals {
-        told.push(told_of(alloc, tally, animal, reasons)?)?;
+    for (place, animal) in report.animals.iter().enumerate() {
+        told.push(told_of(alloc, known, place, animal, causes)?)?;
     }
     Ok(told)
 }
 
-// How many fixes of all animals were left out for each reason; of no reason where there is no record.
+// How many fixes of all animals were left out for each cause.
 pub(crate) fn lefts_of_all(
     alloc: Global,
-    record: Option<&Record>,
-) -> Result<Vec<(Reason, u64)>, AllocError> {
+    report: &Report,
+    known: &Known,
+) -> Result<Vec<(Cause, u64)>, AllocError> {
     let mut left = Vec::new(alloc);
-    let Some(record) = record else {
-        return Ok(left);
-    };
-    for reason in ALL_REASONS {
-        left.push((reason, short(left_of_all(record, reason))))?;
+    for cause in all_causes(alloc)? {
+        left.push((cause, known.left_of_all(report, cause)))?;
     }
     Ok(left)
 }
 
-// How many records there were, and how many of them were left out; none where there is no record.
-pub(crate) fn totals_of<'a>(
-    record: Option<&Record>,
-    left: &'a [(Reason, u64)],
-) -> Option<Totals<'a>> {
-    match record {
-        Some(record) => Some(Totals {
-            records: short(records_of_all(record)),
-            left,
-        }),
+// How many fixes there were, and how many of them were left out, if it is known.
+pub(crate) fn totals_of<'a>(known: &'a Known<'a>, left: &'a [(Cause, u64)]) -> Option<Totals<'a>> {
+    match known.records_of_all() {
+        Some(records) => Some(Totals { records, left }),
         None => None,
     }
 }
@@ -140,31 +117,30 @@ fn is_unused(report: &Report, name: &[u8]) -> bool {
 }
 
 // The animals of a record that a report does not have, in the order of their names.
-pub(crate) fn unused_of<'a>(
+fn unused_in<'a>(
     alloc: Global,
     report: &Report,
     tally: &'a Tally,
 ) -> Result<Vec<Unused<'a>>, AllocError> {
-    let mut names: Vec<&[u8]> = Vec::new(alloc);
-    for (name, _counts) in tally.iter() {
+    let mut unused = Vec::new(alloc);
+    for (name, counts) in tally.iter() {
         if is_unused(report, name) {
-            names.push(name)?;
+            let records = u64::try_from(counts.records).unwrap_or(u64::MAX);
+            unused.push(Unused { name, records })?;
         }
     }
-    names.sort()?;
-    with_records(alloc, tally, &names)
+    unused.sort_by_key(|own| own.name)?;
+    Ok(unused)
 }
 
-// Animals by their names, with their records.
-fn with_records<'a>(
+// The animals that a report does not have, as far as they are known.
+pub(crate) fn unused_of<'a>(
     alloc: Global,
-    tally: &'a Tally,
-    names: &[&'a [u8]],
+    report: &Report,
+    known: &'a Known<'a>,
 ) -> Result<Vec<Unused<'a>>, AllocError> {
-    let mut unused = Vec::new(alloc);
-    for name in names {
-        let records = tally.get(*name).map_or(0, |counts| short(counts.records));
-        unused.push(Unused { name, records })?;
+    match known {
+        Known::ByRecord(_record, tally) => unused_in(alloc, report, tally),
+        _ => Ok(Vec::new(alloc)),
     }
-    Ok(unused)
 }

@@ -1,12 +1,10 @@
 // What lines and numbers of the map are.
 
 use page_drawing::push_colour;
+use page_map::STYLES;
 use page_report::ReadAnimal;
 use page_text::{push_named, push_whole};
 use std::alloc::AllocError;
-
-// How many styles lines of levels have.
-const STYLES: usize = 8;
 
 // How many animals have their names beside their numbers.
 const MOST_IN_KEY: usize = 40;

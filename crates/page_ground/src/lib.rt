@@ -12,4 +12,4 @@ pub use difference::{Difference, Differences, difference_of_utm};
 pub use ground::push_ground;
 pub use key::push_key;
 pub use middle::differences_of;
-pub use system::push_system;
+pub use system::{is_of_zone, push_system};

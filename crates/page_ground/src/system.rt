@@ -2,7 +2,10 @@
 
 use page_record::Zone;
 use page_text::push_whole;
-use std::alloc::AllocError;
+use std::alloc::{AllocError, Global};
+
+// How many zones UTM has.
+const MOST_ZONES: u8 = 60;
 
 // Appends the reference system of a UTM zone, by its code and its name.
 fn push_zone(text: &mut Vec<u8>, zone: Zone) -> Result<(), AllocError> {
@@ -36,4 +39,33 @@ pub fn push_system(
         (None, Some(words)) => text.extend_from_slice(words),
         (None, None) => text.extend_from_slice(b"reference system not known"),
     }
+}
+
+// Whether a text is the reference system of this UTM zone, as it is written.
+fn is_that_of(alloc: Global, text: &[u8], zone: Zone) -> Result<bool, AllocError> {
+    let mut own = Vec::new(alloc);
+    push_zone(&mut own, zone)?;
+    Ok(own.as_slice() == text)
+}
+
+/// Whether a text is the reference system of a UTM zone, as it is written.
+///
+/// # Errors
+///
+/// Memory ran out.
+pub fn is_of_zone(alloc: Global, text: &[u8]) -> Result<bool, AllocError> {
+    for number in 1..=MOST_ZONES {
+        let north = Zone {
+            number,
+            is_south: false,
+        };
+        let south = Zone {
+            number,
+            is_south: true,
+        };
+        if is_that_of(alloc, text, north)? || is_that_of(alloc, text, south)? {
+            return Ok(true);
+        }
+    }
+    Ok(false)
 }

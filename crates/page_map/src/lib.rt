@@ -20,4 +20,5 @@ mod times;
 
 pub use land::{GROUND_LIMIT, Ground, Plane, ground_of};
 pub use maps::{Maps, draw_maps};
+pub use outlines::STYLES;
 pub use scene::Shape;

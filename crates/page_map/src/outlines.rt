@@ -8,8 +8,8 @@ use page_drawing::{push_colour, push_number};
 use range_plane::Point;
 use std::alloc::AllocError;
 
-// How many classes of lines the page has, from l0 on, from the highest level on.
-const STYLES: usize = 8;
+/// How many classes of lines the page has, from l0 on, from the highest level on.
+pub const STYLES: usize = 8;
 
 // Appends the ring through the corners of a polygon.
 fn push_polygon(

@@ -5,24 +5,23 @@ use crate::cells::{
     push_share_cell, push_start,
 };
 use crate::headings::{ANIMAL, push_headings, push_levels, push_percents};
-use crate::reasons::field;
+use crate::reasons::{Cause, field};
 use crate::shown::{Shown, levels_of};
 use page_drawing::push_colour;
 use page_facts::{Facts, at_level};
 use page_report::ReadAnimal;
 use page_tables::Told;
 use page_text::{push_attribute, push_days, push_escaped, push_named};
-use split_tracks::Reason;
 use std::alloc::AllocError;
 
 // How many columns of reasons, and of levels counted twice, one table has room for.
 const WIDEST: usize = 10;
 
-// Appends the cells of how many fixes were left out, by reasons.
-fn push_left(text: &mut Vec<u8>, reasons: &[Reason], left: &[u64]) -> Result<(), AllocError> {
-    for (place, reason) in reasons.iter().enumerate() {
+// Appends the cells of how many fixes were left out, by causes.
+fn push_left(text: &mut Vec<u8>, causes: &[Cause], left: &[u64]) -> Result<(), AllocError> {
+    for (place, cause) in causes.iter().enumerate() {
         let count = left.get(place).copied().unwrap_or(0);
-        push_count_cell(text, field(*reason), Some(count))?;
+        push_count_cell(text, field(*cause), Some(count))?;
     }
     Ok(())
 }
@@ -63,7 +62,7 @@ fn push_times(text: &mut Vec<u8>, shown: &Shown, facts: &Facts) -> Result<(), Al
 // Appends the cells of what became of fixes, and when they were.
 fn push_facts(text: &mut Vec<u8>, shown: &Shown, told: &Told) -> Result<(), AllocError> {
     push_count_cell(text, b"records", told.records)?;
-    push_left(text, shown.reasons, &told.left)?;
+    push_left(text, shown.causes, &told.left)?;
     push_count_cell(text, b"used", Some(told.facts.fixes as u64))?;
     push_times(text, shown, &told.facts)
 }
@@ -165,7 +164,7 @@ fn push_areas_table(text: &mut Vec<u8>, shown: &Shown) -> Result<(), AllocError>
 ///
 /// Memory ran out.
 pub fn push_animals_table(text: &mut Vec<u8>, shown: &Shown) -> Result<(), AllocError> {
-    let has_areas = 2 * levels_of(shown.report).len() as u128 + shown.reasons.len() as u128
+    let has_areas = 2 * levels_of(shown.report).len() as u128 + shown.causes.len() as u128
         <= WIDEST as u128;
     text.extend_from_slice(b"<table id=\"animals\" data-zone=\"")?;
     push_escaped(text, shown.zone)?;

@@ -1,11 +1,10 @@
 // The headings of the table of animals.
 
 use crate::cells::push_count;
-use crate::reasons::heading;
+use crate::reasons::{Cause, heading};
 use crate::shown::{Shown, levels_of, source_words};
 use page_text::{Places, push_fixed};
 use range_stats::PercentRow;
-use split_tracks::Reason;
 use std::alloc::AllocError;
 
 // The headings of the number and the name of an animal.
@@ -46,11 +45,11 @@ pub(crate) fn push_percents(text: &mut Vec<u8>, levels: &[PercentRow]) -> Result
     Ok(())
 }
 
-// Appends the headings of reasons.
-fn push_reasons(text: &mut Vec<u8>, reasons: &[Reason]) -> Result<(), AllocError> {
-    for reason in reasons {
+// Appends the headings of causes.
+fn push_causes(text: &mut Vec<u8>, causes: &[Cause]) -> Result<(), AllocError> {
+    for cause in causes {
         push_turned(text, b"1")?;
-        text.extend_from_slice(heading(*reason))?;
+        text.extend_from_slice(heading(*cause))?;
         text.extend_from_slice(b"</span></th>")?;
     }
     Ok(())
@@ -63,7 +62,7 @@ fn push_above(text: &mut Vec<u8>, shown: &Shown, levels: usize) -> Result<(), Al
     text.extend_from_slice(b"in the ")?;
     text.extend_from_slice(source_words(shown.source))?;
     text.extend_from_slice(b"</span></th>")?;
-    push_over(text, shown.reasons.len(), b"Left out")?;
+    push_over(text, shown.causes.len(), b"Left out")?;
     push_turned(text, b"2")?;
     text.extend_from_slice(
         b"used</span></th><th rowspan=\"2\">First</th><th rowspan=\"2\">Last</th>",
@@ -75,7 +74,7 @@ fn push_above(text: &mut Vec<u8>, shown: &Shown, levels: usize) -> Result<(), Al
 
 // Appends the line below.
 fn push_below(text: &mut Vec<u8>, shown: &Shown, has_areas: bool) -> Result<(), AllocError> {
-    push_reasons(text, shown.reasons)?;
+    push_causes(text, shown.causes)?;
     text.extend_from_slice(b"<th>median</th><th>longest</th>")?;
     if has_areas {
         push_percents(text, levels_of(shown.report))?;

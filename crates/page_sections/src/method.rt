@@ -1,24 +1,23 @@
 // The method as it may stand in a report, what was left out, and what was said when fixes were read.
 
 use crate::cells::push_count;
-use crate::reasons::phrase;
+use crate::reasons::{Cause, phrase};
 use crate::shown::{Shown, Source, falling_levels, source_words};
 use memchr::memmem;
 use page_record::{Given, Record};
 use page_text::{between, push_escaped, push_fixes};
 use range_plane::Scale;
-use split_tracks::Reason;
 use std::alloc::{AllocError, Global};
 
 // How many lines that were said the page quotes.
 const MOST_SAID: usize = 12;
 
-/// How many fixes were left out of all records, by reasons.
+/// How many fixes were left out of all records, by causes.
 #[derive(Clone, Copy)]
 pub struct Totals<'a> {
     /// How many records the export or the table had.
     pub records: u64,
-    pub left: &'a [(Reason, u64)],
+    pub left: &'a [(Cause, u64)],
 }
 
 // The name of a unit.
@@ -85,26 +84,26 @@ pub fn push_method(
 // How many fixes were left out.
 fn gone(totals: &Totals) -> u64 {
     let mut gone: u64 = 0;
-    for (_reason, count) in totals.left {
+    for (_cause, count) in totals.left {
         gone = gone.saturating_add(*count);
     }
     gone
 }
 
-// How many reasons occur.
-fn reasons_that_occur(totals: &Totals) -> usize {
+// How many causes occur.
+fn causes_that_occur(totals: &Totals) -> usize {
     totals.left.iter().filter(|own| own.1 > 0).count()
 }
 
-// Appends how many fixes were left out for each reason.
-fn push_reasons(text: &mut Vec<u8>, totals: &Totals) -> Result<(), AllocError> {
-    let mut left = reasons_that_occur(totals);
-    for (reason, count) in totals.left {
+// Appends how many fixes were left out, and why.
+fn push_causes(text: &mut Vec<u8>, totals: &Totals) -> Result<(), AllocError> {
+    let mut left = causes_that_occur(totals);
+    for (cause, count) in totals.left {
         if *count > 0 {
             left = left.saturating_sub(1);
             push_count(text, *count)?;
             text.extend_from_slice(b" ")?;
-            text.extend_from_slice(phrase(*reason))?;
+            text.extend_from_slice(phrase(*cause))?;
             text.extend_from_slice(between(left).as_bytes())?;
         }
     }
@@ -141,7 +140,7 @@ pub fn push_left_out(
     text.extend_from_slice(b" ")?;
     push_count(text, gone)?;
     text.extend_from_slice(b" were left out: ")?;
-    push_reasons(text, totals)
+    push_causes(text, totals)
 }
 
 // Whether words stand in a line.

@@ -2,8 +2,17 @@
 
 use split_tracks::Reason;
 
-// What stands above a column of a reason.
-pub(crate) fn heading(reason: Reason) -> &'static [u8] {
+/// Why fixes were left out.
+#[derive(Clone, Copy, PartialEq, Eq, Debug)]
+pub enum Cause {
+    /// For this reason, when the tracks were made.
+    Made(Reason),
+    /// Their track says that they are not used.
+    Use,
+}
+
+// What stands above the column of a reason.
+fn heading_of(reason: Reason) -> &'static [u8] {
     match reason {
         Reason::Animal => b"no animal",
         Reason::Coordinates => b"no place",
@@ -22,8 +31,16 @@ pub(crate) fn heading(reason: Reason) -> &'static [u8] {
     }
 }
 
-// What the page calls the cells of a reason, for a program that reads it.
-pub(crate) fn field(reason: Reason) -> &'static [u8] {
+// What stands above a column.
+pub(crate) fn heading(cause: Cause) -> &'static [u8] {
+    match cause {
+        Cause::Made(reason) => heading_of(reason),
+        Cause::Use => b"not in use",
+    }
+}
+
+// What the page calls the cells of a reason.
+fn field_of(reason: Reason) -> &'static [u8] {
     match reason {
         Reason::Animal => b"left_animal",
         Reason::Coordinates => b"left_coordinates",
@@ -42,14 +59,22 @@ pub(crate) fn field(reason: Reason) -> &'static [u8] {
     }
 }
 
-/// The word of a reason in the titles of tables, behind `left_`.
-pub fn reason_word(reason: Reason) -> &'static [u8] {
-    let field = field(reason);
+// What the page calls cells of fixes that were left out, for a program that reads it.
+pub(crate) fn field(cause: Cause) -> &'static [u8] {
+    match cause {
+        Cause::Made(reason) => field_of(reason),
+        Cause::Use => b"left_use",
+    }
+}
+
+/// The word of why fixes were left out in the titles of tables, behind `left_`.
+pub fn cause_word(cause: Cause) -> &'static [u8] {
+    let field = field(cause);
     field.strip_prefix(b"left_").unwrap_or(field)
 }
 
 // What a sentence says of fixes that were left out for a reason.
-pub(crate) fn phrase(reason: Reason) -> &'static [u8] {
+fn phrase_of(reason: Reason) -> &'static [u8] {
     match reason {
         Reason::Animal => b"of no animal",
         Reason::Coordinates => b"without coordinates",
@@ -65,5 +90,13 @@ pub(crate) fn phrase(reason: Reason) -> &'static [u8] {
         Reason::Grid => b"marked as outliers and off the grid",
         Reason::Speed => b"faster than the limit",
         Reason::Every => b"not the first in their interval",
+    }
+}
+
+// What a sentence says of fixes that were left out.
+pub(crate) fn phrase(cause: Cause) -> &'static [u8] {
+    match cause {
+        Cause::Made(reason) => phrase_of(reason),
+        Cause::Use => b"not in use, as the data said",
     }
 }

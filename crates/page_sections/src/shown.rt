@@ -2,11 +2,11 @@
 
 ghost use Rattle.std.specs.Prelude.{◌<◌, ◌^◌};
 
+use crate::reasons::Cause;
 use page_report::Report;
 use page_tables::Told;
 use range_stats::PercentRow;
 use split_clock::Clock;
-use split_tracks::Reason;
 use std::alloc::{AllocError, Global};
 
 /// What the fixes were in.
@@ -23,8 +23,8 @@ pub struct Shown<'a> {
     pub report: &'a Report,
     /// What is told of each animal, in the order of the report.
     pub told: &'a [Told],
-    /// The reasons for which fixes were left out, in the order of the counts of what is told.
-    pub reasons: &'a [Reason],
+    /// Why fixes were left out, in the order of the counts of what is told.
+    pub causes: &'a [Cause],
     pub source: Source,
     /// Whether seconds are dates, those of UTC since 1970.
     pub dated: bool,

@@ -58,7 +58,7 @@ fn push_report(text: &mut Vec<u8>, report: Option<&[u8]>) -> Result<(), AllocErr
         None => push_sum(
             text,
             b"report_sha256",
-            b"none was kept: the ranges were made of a data frame",
+            b"none was kept: the ranges were made in memory",
         ),
     }
 }

@@ -12,6 +12,11 @@ fn text_option<'a>(alloc: Global, name: &'a str, value: &'a str) -> Arg<'a> {
         .allow_hyphen_values(true)
 }
 
+// An option without a value.
+fn flag<'a>(alloc: Global, name: &'a str) -> Arg<'a> {
+    Arg::new(alloc, name).long(name).action(ArgAction::SetTrue)
+}
+
 // The program with the options of what was typed in.
 fn with_words<'a>(alloc: Global, command: Command<'a>) -> Result<Command<'a>, AllocError> {
     command
@@ -33,11 +38,8 @@ fn whole_command<'a>(alloc: Global) -> Result<Command<'a>, AllocError> {
         .arg(text_option(alloc, "made", "DAY"))?
         .arg(text_option(alloc, "program", "TEXT"))?
         .arg(text_option(alloc, "program-sum", "SUM"))?
-        .arg(
-            Arg::new(alloc, "alone")
-                .long("alone")
-                .action(ArgAction::SetTrue),
-        )?
+        .arg(flag(alloc, "alone"))?
+        .arg(flag(alloc, "data"))?
         .arg(Arg::new(alloc, "FOLDER").value_name("FOLDER"))
 }
 

@@ -48,6 +48,8 @@ Options:
       --program-sum <SUM>      Its SHA-256 checksum
       --alone                  The page is handed in without its folder, so that
                                it has no checksum of the report
+      --data                   The export that tracks/split.txt names is a table
+                               of data in memory, which nobody has
   -h, --help                   Print help
   -V, --version                Print version
 

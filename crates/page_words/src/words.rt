@@ -35,6 +35,8 @@ pub struct PageWords<'a> {
     pub program_sum: Option<&'a str>,
     /// Whether the page is handed in without its folder.
     pub is_alone: bool,
+    /// Whether the export of the record is a table of data in memory, which nobody has.
+    pub is_data: bool,
 }
 
 // A text that is not empty, if it was given.
@@ -70,6 +72,7 @@ fn words_in<'a>(alloc: Global, matches: &ArgMatches<'a>) -> Result<PageWords<'a>
         program: text_in(matches, "program").unwrap_or("homerange"),
         program_sum: sum_in(alloc, matches.get_str("program-sum"))?,
         is_alone: matches.get_flag("alone"),
+        is_data: matches.get_flag("data"),
     })
 }
 

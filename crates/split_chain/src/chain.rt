@@ -24,7 +24,7 @@ ghost use Rattle.split_reading.specs.Words.{texts};
 ghost use Rattle.split_refusal.specs.Refused.{IsOfNoFix};
 ghost use Rattle.split_said.specs.Order.{animals_in_order};
 
-use crate::missing::tell_unmet;
+use crate::missing::{tell_other_points, tell_unmet};
 use crate::passed::refuse_passed_over;
 use crate::placed::{choice_of, grid_of, moved_by, place};
 use crate::read::{read, refuse_maker, refuse_other_animals, shown};
@@ -421,6 +421,7 @@ fn split_read(
         columns: &columns,
         unit: asked.unit,
         zone: wish.zone,
+        system: wish.system,
         name: asked.name,
         times: TimesRead {
             form,
@@ -464,6 +465,7 @@ pub fn split_export<P: Progress>(
     refuse_passed_over(alloc, wish, &export)?;
     let form = form_of_times(alloc, bytes, asked, wish, &export)?;
     let mut said = Said::new(alloc);
+    tell_other_points(alloc, &mut said, wish)?;
     tell_unmet(alloc, &mut said, bytes, asked, wish, &export)?;
     split_read(alloc, asked, wish, &form, export, said)
 }

@@ -3,12 +3,14 @@
 #![tactic(auto)]
 
 mod chain;
+mod joined;
 mod laws;
 mod missing;
 mod passed;
 mod placed;
 mod read;
 mod steps;
+mod systems;
 mod times;
 mod wish;
 

@@ -1,4 +1,5 @@
-// Words for what is missing that no field is.
+// What is said of an export before its records are looked at: points that are not read, and words for what is missing that no field
+// is.
 
 ghost use Rattle.std.specs.Prelude.{IfErr};
 ghost use Rattle.split_refusal.specs.Refused.{IsOfNoFix};
@@ -46,6 +47,33 @@ fn say_all_unmet(
         }
     }
     Ok(())
+}
+
+/// Says how many points of GPX are not read, if there are such.
+///
+/// # Errors
+///
+/// Memory ran out.
+pub(crate) fn tell_other_points(
+    alloc: Global,
+    said: &mut Said,
+    wish: &Wish<'_>,
+) -> Result<(), Refusal>
+    ensures { IfErr result IsOfNoFix }
+{
+    let count = wish.other_points;
+    if count == 0 {
+        return Ok(());
+    }
+    let Ok(line) = format!(in alloc;
+        "points of no track, as waypoints and those of routes: {count}, not read"
+    ) else {
+        return Err(Refusal::out_of_memory(alloc));
+    };
+    match said.say(alloc, line.as_bytes()) {
+        Ok(()) => Ok(()),
+        Err(_) => Err(Refusal::out_of_memory(alloc)),
+    }
 }
 
 /// Says which words for what is missing no field of a table is, if such words were named.

@@ -3,11 +3,13 @@
 ghost use Rattle.std.specs.Prelude.{IfErr};
 ghost use Rattle.split_refusal.specs.Refused.{IsOfNoFix};
 
+use crate::joined::{Unread, join_words, joined_titles, refuse_parts};
+use crate::systems::refuse_systems;
 use crate::wish::Wish;
 use split_clock::Clock;
 use split_export::{Export, Texts, look_at_unread};
 use split_reading::{Row, Told};
-use split_refusal::{Kind, Refusal};
+use split_refusal::{Kind, Refusal, sign_of};
 use split_titles::{comes_to, has_word, is_of_places, not_read, trimmed};
 use std::alloc::{AllocError, Global};
 
@@ -144,6 +146,9 @@ enum Passed {
     Hour,
     // The hour in another form than that of one number.
     OddHour,
+    // The minute, of times that are hours alone, and the second, of such that are minutes.
+    Minute,
+    Second,
     // Of which zone times are.
     Offset,
     // Of which zone coordinates are.
@@ -188,6 +193,11 @@ fn has_hours(title: &[u8], texts: &Texts) -> bool {
     texts.are_several && texts.are_numbered && is_one
 }
 
+// Whether a column of this title and with such texts has minutes or seconds, for which this sign stands.
+fn is_part(title: &[u8], texts: &Texts, sign: &str) -> bool {
+    texts.are_several && texts.are_minutes && sign_of(title, texts.first_text()) == Some(sign)
+}
+
 // Whether the fix of a row, if it has one, was at midnight by a clock.
 fn is_at_midnight(row: &Row, clock: &Clock) -> bool {
     match row.told {
@@ -218,17 +228,23 @@ struct Known {
     has_classes: bool,
     has_own_metres: bool,
     is_in_utc: bool,
+    // Whether the forms of times have hours and no minutes, and minutes and no seconds.
+    lacks_minutes: bool,
+    lacks_seconds: bool,
 }
 
 // What is known of an export, of which this is wished.
 fn known_of(export: &Export<'_>, wish: &Wish<'_>) -> Known {
     let columns = &export.columns;
+    let forms = wish.forms;
     Known {
         has_time: !columns.time.is_empty() && !columns.is_second,
         are_days: are_days(export, wish.clock),
         has_classes: columns.argos.is_some(),
         has_own_metres: columns.metres.is_some() && !columns.is_utm,
         is_in_utc: wish.clock_name == UTC,
+        lacks_minutes: (forms.contains("%H") || forms.contains("%I")) && !forms.contains("%M"),
+        lacks_seconds: forms.contains("%M") && !forms.contains("%S"),
     }
 }
 
@@ -250,6 +266,10 @@ fn what_is_passed(known: Known, title: &[u8], texts: &Texts) -> Option<Passed> {
         } else {
             Passed::OddHour
         })
+    } else if known.lacks_minutes && is_part(title, texts, "%M") {
+        Some(Passed::Minute)
+    } else if known.lacks_seconds && is_part(title, texts, "%S") {
+        Some(Passed::Second)
     } else if known.has_time && known.is_in_utc && has_offsets(title, texts) {
         Some(Passed::Offset)
     } else if known.has_own_metres && has_grid_zones(title, texts) {
@@ -261,7 +281,17 @@ fn what_is_passed(known: Known, title: &[u8], texts: &Texts) -> Option<Passed> {
     }
 }
 
-// Why a column may not be passed over, and the remedy.
+// What a column of parts of times has, and which sign stands for it; nothing of another column.
+fn part_of(passed: Passed) -> Option<(&'static str, &'static str)> {
+    match passed {
+        Passed::Hour => Some(("hours, which the days of the time have not", "%H")),
+        Passed::Minute => Some(("minutes, which the hours of the time have not", "%M")),
+        Passed::Second => Some(("seconds, which the minutes of the time have not", "%S")),
+        _ => None,
+    }
+}
+
+// Why a column may not be passed over, and the remedy, where that is one for all columns.
 fn words_of(passed: Passed) -> &'static str {
     match passed {
         Passed::Half => {
@@ -275,17 +305,6 @@ fn words_of(passed: Passed) -> &'static str {
         Passed::Classes => {
             "may have Argos classes: name it, as by --argos COLUMN, or write its values otherwise where it has none"
         }
-        Passed::Clock => {
-            "has hours, which the days of the time have not: join them, as by --time DAY,COLUMN, or remove it"
-        }
-        Passed::Hour => {
-            "has hours, which the days of the time have not: join them, as by --time DAY,COLUMN --time-format '%Y-%m-%d %H', or \
-             remove it"
-        }
-        Passed::OddHour => {
-            "has hours, which the days of the time have not: write them as clocks, such as 00:30, and join them, as by --time DAY,COLUMN, \
-             or remove it"
-        }
         Passed::Offset => {
             "says of which zone times are, and is not read: name the zone, as by --tz Europe/Ljubljana, or write the offset behind \
              each time, and remove it"
@@ -296,16 +315,60 @@ fn words_of(passed: Passed) -> &'static str {
         Passed::Places => {
             "has coordinates of records that have none in the columns that are read: make a table of each, or remove it"
         }
+        Passed::Clock | Passed::Hour | Passed::OddHour | Passed::Minute | Passed::Second => "",
     }
 }
 
-// The refusal of a table for such a column of this title.
-fn refusal_of(alloc: Global, column: usize, title: &[u8], passed: Passed) -> Refusal
+// Why a column may not be passed over, and the remedy.
+fn words_about(
+    alloc: Global,
+    export: &Export<'_>,
+    wish: &Wish<'_>,
+    unread: Unread<'_>,
+    column: usize,
+    passed: Passed,
+) -> Result<String, AllocError> {
+    if let Some((what, sign)) = part_of(passed) {
+        let joined = join_words(alloc, export, wish, unread, column, sign)?;
+        return format!(in alloc; "has {what}: {joined}, or remove it");
+    }
+    let titles = joined_titles(alloc, export, unread, column)?;
+    match passed {
+        Passed::Clock => format!(in alloc;
+            "has hours, which the days of the time have not: join them, as by --time '{titles}', or remove it"
+        ),
+        Passed::OddHour => format!(in alloc;
+            "has hours, which the days of the time have not: write them as clocks, such as 00:30, and join them, as by --time '{titles}', \
+             or remove it"
+        ),
+        _ => String::from_str(alloc, words_of(passed)),
+    }
+}
+
+// The refusal of a table for a column that may not be passed over.
+fn passed_refusal(
+    alloc: Global,
+    export: &Export<'_>,
+    wish: &Wish<'_>,
+    unread: Unread<'_>,
+    column: usize,
+    passed: Passed,
+) -> Refusal
+    ensures { IsOfNoFix result }
+{
+    match words_about(alloc, export, wish, unread, column, passed) {
+        Ok(words) => refusal_of(alloc, column, unread.title(column), &words),
+        Err(_) => Refusal::out_of_memory(alloc),
+    }
+}
+
+/// The refusal of a table for a column of this title, of which these words are said.
+pub(crate) fn refusal_of(alloc: Global, column: usize, title: &[u8], words: &str) -> Refusal
     ensures { IsOfNoFix result }
 {
     let title = str::from_utf8(trimmed(title)).unwrap_or("");
     let number = column.saturating_add(1);
-    let text = format!(in alloc; "column {number} '{title}' {}", words_of(passed));
+    let text = format!(in alloc; "column {number} '{title}' {words}");
     refusal_with(alloc, text)
 }
 
@@ -319,16 +382,10 @@ fn refusal_with(alloc: Global, text: Result<String, AllocError>) -> Refusal
     }
 }
 
-// The first column that may not be passed over, of some with such texts.
-fn first_passed(
-    known: Known,
-    titles: &[Vec<u8>],
-    columns: &[usize],
-    texts: &[Texts],
-) -> Option<(usize, Passed)> {
-    for (column, own) in columns.iter().zip(texts) {
-        let title = titles.get(*column)?;
-        if let Some(what) = what_is_passed(known, title, own) {
+// The first column that may not be passed over.
+fn first_passed(known: Known, unread: Unread<'_>) -> Option<(usize, Passed)> {
+    for (column, texts) in unread.columns.iter().zip(unread.texts) {
+        if let Some(what) = what_is_passed(known, unread.title(*column), texts) {
             return Some((*column, what));
         }
     }
@@ -341,6 +398,22 @@ fn title_at<'a>(export: &'a Export<'_>, column: usize) -> &'a [u8] {
         Some(title) => title.as_slice(),
         None => b"",
     }
+}
+
+// Refuses a table for its columns that are not read.
+fn refuse_unread(
+    alloc: Global,
+    wish: &Wish<'_>,
+    export: &Export<'_>,
+    unread: Unread<'_>,
+) -> Result<(), Refusal>
+    ensures { IfErr result IsOfNoFix }
+{
+    if let Some((column, what)) = first_passed(known_of(export, wish), unread) {
+        return Err(passed_refusal(alloc, export, wish, unread, column, what));
+    }
+    refuse_systems(alloc, wish, export, unread)?;
+    refuse_parts(alloc, export, unread)
 }
 
 /// Refuses a table of which a column that is not read may say where or when fixes are, or of which kind.
@@ -368,8 +441,10 @@ pub(crate) fn refuse_passed_over(
     let Ok(texts) = look_at_unread(alloc, &export.text, &columns, have_places, rows) else {
         return Err(Refusal::out_of_memory(alloc));
     };
-    match first_passed(known_of(export, wish), &export.titles, &columns, &texts) {
-        Some((column, what)) => Err(refusal_of(alloc, column, title_at(export, column), what)),
-        None => Ok(()),
-    }
+    let unread = Unread {
+        titles: &export.titles,
+        columns: &columns,
+        texts: &texts,
+    };
+    refuse_unread(alloc, wish, export, unread)
 }

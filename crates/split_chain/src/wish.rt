@@ -14,8 +14,12 @@ use split_said::Exports;
 pub struct Wish<'a> {
     /// The exports of which the table was made.
     pub exports: Exports<'a>,
+    /// How many points of GPX are not read, since they are no points of tracks.
+    pub other_points: usize,
     /// The zone of all coordinates.
     pub zone: Option<Zone>,
+    /// The reference system of all coordinates, as it was named; empty where none was.
+    pub system: &'a [u8],
     /// Whether fixes that are not used stand in tracks, with a mark; else they are left out.
     pub keeps_marks: bool,
     /// Whether what became of each record is told as text.

@@ -40,11 +40,11 @@ one_of first second nanosecond before = do
 -- the moment of a record by the moments at which the clock showed its time
 abbrev pub moment_by : Moments → ℕ → Option Moment → Result ClockMoment NoMoment
 moment_by moments.None nanosecond before = Err PassedOver
-moment_by (moments.One second) nanosecond before = moment_at second nanosecond >>= (λ moment. Ok (record { moment = moment; is_twice = false }))
-moment_by (moments.Two first second) nanosecond before = one_of first second nanosecond before >>= (λ moment. Ok (record { moment = moment; is_twice = true }))
+moment_by (moments.One second) nanosecond before = moment_at second nanosecond >>= (λ moment. Ok (record { moment = moment; is_local = true; is_twice = false }))
+moment_by (moments.Two first second) nanosecond before = one_of first second nanosecond before >>= (λ moment. Ok (record { moment = moment; is_local = true; is_twice = true }))
 
 -- the moment of a record of a time by the clock of a zone, behind a record of the same animal that has this moment: of a time in
 -- UTC its moment, and of one that the clock showed that of the moments at which it did
 abbrev pub clock_moment_in : Option Tzif → Option Moment → TextTime → Result ClockMoment NoMoment
-clock_moment_in table before (Utc moment) = Ok (record { moment = moment; is_twice = false })
+clock_moment_in table before (Utc moment) = Ok (record { moment = moment; is_local = false; is_twice = false })
 clock_moment_in table before (Local time) = moment_by (showed table time.second) time.nanosecond before

@@ -8,10 +8,13 @@ ghost use Rattle.split_clock.specs.Twice.{chosen, clock_moment_in, is_earlier, m
 use crate::clock::{Clock, Moments};
 use split_times::{LocalTime, Moment, TextTime};
 
-/// The moment of a record by a clock, and whether the clock showed its time twice.
+/// The moment of a record.
 #[derive(Clone, Copy, PartialEq, Eq, Debug)]
 pub struct ClockMoment {
     pub moment: Moment,
+    /// Whether its time is what the clock showed; else it says itself how far its clock is ahead of UTC.
+    pub is_local: bool,
+    /// Whether the clock showed its time twice.
     pub is_twice: bool,
 }
 
@@ -92,10 +95,12 @@ pub fn moment_by(
         Moments::None => Err(NoMoment::PassedOver),
         Moments::One(second) => Ok(ClockMoment {
             moment: moment_at(second, nanosecond)?,
+            is_local: true,
             is_twice: false,
         }),
         Moments::Two(first, second) => Ok(ClockMoment {
             moment: one_of(first, second, nanosecond, before)?,
+            is_local: true,
             is_twice: true,
         }),
     }
@@ -129,6 +134,7 @@ pub fn clock_moment(
     match time {
         TextTime::Utc(moment) => Ok(ClockMoment {
             moment,
+            is_local: false,
             is_twice: false,
         }),
         TextTime::Local(time) => local_moment(time, clock, before),

@@ -52,10 +52,13 @@ fn wish_of<'a>(
     choices: &'a Choices<'a>,
     clock: &'a Clock,
     exports: split_said::Exports<'a>,
+    other_points: usize,
 ) -> Wish<'a> {
     Wish {
         exports,
+        other_points,
         zone: words.zone,
+        system: words.system.unwrap_or("").as_bytes(),
         keeps_marks: words.keeps_marks,
         lists_records: words.lists_records,
         speed: choices.speed,
@@ -81,6 +84,8 @@ struct Source<'a> {
     // Of one export nothing has to be told.
     names: &'a [&'a [u8]],
     counts: &'a [u32],
+    // How many points of GPX are not read.
+    other_points: usize,
 }
 
 // Splits a table, of which the words ask this.
@@ -99,7 +104,7 @@ fn split_asked<'a, P: Progress>(
         names: source.names,
         counts: source.counts,
     };
-    let wish = wish_of(words, choices, clock, exports);
+    let wish = wish_of(words, choices, clock, exports, source.other_points);
     let asked = Asked {
         named,
         name: words.name.unwrap_or("animal").as_bytes(),
@@ -163,6 +168,7 @@ fn split_source<P: Progress>(
 fn split_text<P: Progress>(
     alloc: Global,
     text: &[u8],
+    other_points: usize,
     words: &Words<'_>,
     clock: &Clock,
     progress: &mut P,
@@ -172,6 +178,7 @@ fn split_text<P: Progress>(
         has_commas: false,
         names: &[],
         counts: &[],
+        other_points,
     };
     split_source(alloc, source, words, clock, progress)
 }
@@ -184,10 +191,9 @@ fn split_one<P: Progress>(
     clock: &Clock,
     progress: &mut P,
 ) -> Result<Split, Refusal> {
-    match text_of(alloc, words.first_export(), bytes, words)? {
-        Some(text) => split_text(alloc, &text, words, clock, progress),
-        None => split_text(alloc, bytes, words, clock, progress),
-    }
+    let text = text_of(alloc, words.first_export(), bytes, words)?;
+    let table = text.own.as_deref().unwrap_or(bytes);
+    split_text(alloc, table, text.other_points, words, clock, progress)
 }
 
 // The names at the end of paths.
@@ -207,7 +213,8 @@ fn split_several<P: Progress>(
     clock: &Clock,
     progress: &mut P,
 ) -> Result<Split, Refusal> {
-    let joined = join_exports(alloc, words, all)?;
+    let several = join_exports(alloc, words, all)?;
+    let joined = &several.joined;
     let Ok(names) = names_of(alloc, &words.exports) else {
         return Err(Refusal::out_of_memory(alloc));
     };
@@ -216,6 +223,7 @@ fn split_several<P: Progress>(
         has_commas: joined.has_commas,
         names: &names,
         counts: &joined.counts,
+        other_points: several.other_points,
     };
     match split_source(alloc, source, words, clock, progress) {
         Ok(split) => Ok(split),

@@ -1,6 +1,6 @@
 // Several exports as one table.
 
-use crate::text::{table_in, text_of};
+use crate::text::{Text, table_in, text_of};
 use range_plane::OutOfMemory;
 use split_export::{text_fault, titles_of};
 use split_join::{JoinFault, Joined, join, place_of};
@@ -129,12 +129,8 @@ fn join_refusal(alloc: Global, paths: &[&str], tables: &[&[u8]], fault: JoinFaul
     }
 }
 
-// The texts of exports; none of one whose bytes are its text.
-fn own_texts(
-    alloc: Global,
-    words: &Words<'_>,
-    all: &[Vec<u8>],
-) -> Result<Vec<Option<Vec<u8>>>, Refusal> {
+// The texts of exports.
+fn own_texts(alloc: Global, words: &Words<'_>, all: &[Vec<u8>]) -> Result<Vec<Text>, Refusal> {
     let mut own = Vec::new(alloc);
     for (path, bytes) in words.exports.iter().zip(all) {
         let text = text_of(alloc, path, bytes, words)?;
@@ -151,12 +147,9 @@ fn table_of<'a>(
     words: &Words<'_>,
     path: &str,
     bytes: &'a [u8],
-    own: &'a Option<Vec<u8>>,
+    own: &'a Text,
 ) -> Result<&'a [u8], Refusal> {
-    let text = match own {
-        Some(own) => own.as_slice(),
-        None => bytes,
-    };
+    let text = own.own.as_deref().unwrap_or(bytes);
     let table = match table_in(alloc, text, words) {
         Ok(table) => table,
         Err(refusal) => return Err(of_export(alloc, refusal, path)),
@@ -172,7 +165,7 @@ fn tables_of<'a>(
     alloc: Global,
     words: &Words<'_>,
     all: &'a [Vec<u8>],
-    own: &'a [Option<Vec<u8>>],
+    own: &'a [Text],
 ) -> Result<Vec<&'a [u8]>, Refusal> {
     let mut tables: Vec<&[u8]> = Vec::new(alloc);
     for ((path, bytes), own) in words.exports.iter().zip(all).zip(own) {
@@ -184,6 +177,21 @@ fn tables_of<'a>(
     Ok(tables)
 }
 
+/// Several exports as one table.
+#[derive(Drop)]
+pub(crate) struct Several {
+    pub joined: Joined,
+    /// How many points of GPX are not read.
+    pub other_points: usize,
+}
+
+// How many points of the GPX of all texts are not read.
+fn points_of_all(texts: &[Text]) -> usize {
+    texts.iter().fold(0usize, |count, text| {
+        count.saturating_add(text.other_points)
+    })
+}
+
 /// The table of several exports.
 ///
 /// # Errors
@@ -193,11 +201,14 @@ pub(crate) fn join_exports(
     alloc: Global,
     words: &Words<'_>,
     all: &[Vec<u8>],
-) -> Result<Joined, Refusal> {
+) -> Result<Several, Refusal> {
     let own = own_texts(alloc, words, all)?;
     let tables = tables_of(alloc, words, all, &own)?;
     match join(alloc, &tables) {
-        Ok(joined) => Ok(joined),
+        Ok(joined) => Ok(Several {
+            joined,
+            other_points: points_of_all(&own),
+        }),
         Err(fault) => Err(join_refusal(alloc, &words.exports, &tables, fault)),
     }
 }

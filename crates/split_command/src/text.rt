@@ -2,7 +2,7 @@
 
 use crate::begins::{said_of_file, said_of_mark, said_of_text};
 use split_encoding::{DecodeFault, Encoding, decode, encoding_of};
-use split_gpx::{GpxCause, GpxFault, declared_encoding, table_of_gpx};
+use split_gpx::{GpxCause, GpxFault, GpxTable, declared_encoding, table_of_gpx};
 use split_refusal::{Kind, Refusal};
 use split_words::Words;
 use std::alloc::{AllocError, Global};
@@ -147,7 +147,7 @@ fn gpx_text_table(
     path: &str,
     text: &[u8],
     are_of_one: bool,
-) -> Result<Vec<u8>, Refusal> {
+) -> Result<GpxTable, Refusal> {
     match table_of_gpx(alloc, text, are_of_one) {
         Ok(table) => Ok(table),
         Err(fault) => Err(gpx_refusal(alloc, path, fault)),
@@ -160,7 +160,7 @@ fn gpx_table(
     path: &str,
     bytes: &[u8],
     are_of_one: bool,
-) -> Result<Vec<u8>, Refusal> {
+) -> Result<GpxTable, Refusal> {
     let encoding = gpx_encoding(alloc, path, bytes)?;
     match decode(alloc, bytes, encoding) {
         Ok(text) => gpx_text_table(alloc, path, &text, are_of_one),
@@ -241,7 +241,35 @@ pub(crate) fn table_in<'a>(
     }
 }
 
-/// The text of the bytes of an export at a path, which is a table; none where the bytes are that text.
+/// The text of an export, which is a table.
+#[derive(Drop)]
+pub(crate) struct Text {
+    /// None where the bytes of the export are that text.
+    pub own: Option<Vec<u8>>,
+    /// How many points of GPX are not read, since they are no points of tracks.
+    pub other_points: usize,
+}
+
+impl Text {
+    // A text of a table.
+    fn of_table(own: Option<Vec<u8>>) -> Text {
+        Text {
+            own,
+            other_points: 0,
+        }
+    }
+}
+
+impl From<GpxTable> for Text {
+    fn from(table: GpxTable) -> Text {
+        Text {
+            own: Some(table.text),
+            other_points: table.other_points,
+        }
+    }
+}
+
+/// The text of the bytes of an export at a path.
 ///
 /// # Errors
 ///
@@ -251,18 +279,19 @@ pub(crate) fn text_of(
     path: &str,
     bytes: &[u8],
     words: &Words<'_>,
-) -> Result<Option<Vec<u8>>, Refusal> {
+) -> Result<Text, Refusal> {
     refuse_said(alloc, path, said_of_file(bytes))?;
     if words.text.is_gpx {
-        return Ok(Some(gpx_table(alloc, path, bytes, words.name.is_some())?));
+        let table = gpx_table(alloc, path, bytes, words.name.is_some())?;
+        return Ok(Text::from(table));
     }
     let encoding = words.text.encoding;
     refuse_said(alloc, path, said_of_mark(bytes, encoding))?;
     if encoding == Encoding::Utf8 {
         refuse_said(alloc, path, said_of_text(bytes, encoding))?;
-        return Ok(None);
+        return Ok(Text::of_table(None));
     }
     let text = decoded(alloc, path, bytes, encoding)?;
     refuse_said(alloc, path, said_of_text(&text, encoding))?;
-    Ok(Some(text))
+    Ok(Text::of_table(Some(text)))
 }

@@ -12,6 +12,7 @@ mod text;
 mod times_look;
 mod unmet;
 mod unread;
+mod unread_sides;
 mod unread_times;
 mod unread_words;
 

@@ -1,5 +1,6 @@
 // What the texts of columns that are not read may say of where and when fixes are, and of which kind.
 
+use crate::unread_sides::Sides;
 use crate::unread_words::{is_grid_zone, is_numbered, is_of_clock, is_place};
 use csv::ByteRecord;
 use range_plane::OutOfMemory;
@@ -10,7 +11,7 @@ use split_tracks::Reason;
 use std::alloc::Global;
 
 // How many bytes of a text tell it from others.
-const TOLD_BYTES: usize = 24;
+const TOLD_BYTES: usize = 32;
 
 /// What all texts of a column are that are not missing.
 #[derive(Clone, Copy, PartialEq, Eq, Debug)]
@@ -25,6 +26,8 @@ pub struct Texts {
     pub are_clocks: bool,
     /// Whether all are whole numbers from 0 to 24.
     pub are_hours: bool,
+    /// Whether all are whole numbers from 0 to 59.
+    pub are_minutes: bool,
     /// Whether all begin with a digit, as far as they were looked at.
     pub are_numbered: bool,
     /// Whether all are zones of time that are UTC.
@@ -35,11 +38,8 @@ pub struct Texts {
     pub are_grid_zones: bool,
     /// Whether one is a number other than 0 of a record that has no coordinates.
     pub is_beside_none: bool,
-    // Whether all are `N` or `S`, and whether all are `E` or `W`.
-    are_of_latitude: bool,
-    are_of_longitude: bool,
-    // Whether one is `S` or `W` of a latitude or a longitude above 0.
-    is_against: bool,
+    // The sides that they say.
+    sides: Sides,
     // Whether all are classes of Argos, and whether numbers and letters are among them.
     are_classes: bool,
     has_number: bool,
@@ -84,6 +84,14 @@ fn is_hour(text: &[u8]) -> bool {
     }
 }
 
+// Whether a text is a minute, or a second of one.
+fn is_minute(text: &[u8]) -> bool {
+    match text {
+        [first, _] => is_pair(text) && *first <= b'5',
+        _ => is_pair(text),
+    }
+}
+
 // Whether a text is the zone of UTC, or no offset from it.
 fn is_utc(text: &[u8]) -> bool {
     let is_nothing = text
@@ -95,39 +103,22 @@ fn is_utc(text: &[u8]) -> bool {
     is_nothing || is_name
 }
 
-// Whether a text is one of two letters.
-fn is_side(text: &[u8], one: u8, other: u8) -> bool {
-    match text {
-        [letter] => letter.to_ascii_uppercase() == one || letter.to_ascii_uppercase() == other,
-        _ => false,
-    }
-}
-
-// Whether a letter says south or west of degrees above 0.
-fn is_against(text: &[u8], degrees: Option<(i64, i64)>) -> bool {
-    let Some((longitude, latitude)) = degrees else {
-        return false;
-    };
-    is_side(text, b'S', b'S') && latitude > 0 || is_side(text, b'W', b'W') && longitude > 0
-}
-
 impl Texts {
-    // Those of no text.
-    fn none() -> Texts {
+    // Those of no text, of a column of this title.
+    fn none(title: &[u8]) -> Texts {
         Texts {
             are_there: false,
             are_several: false,
             are_halves: true,
             are_clocks: true,
             are_hours: true,
+            are_minutes: true,
             are_numbered: true,
             are_utc: true,
             are_of_clocks: true,
             are_grid_zones: true,
             is_beside_none: false,
-            are_of_latitude: true,
-            are_of_longitude: true,
-            is_against: false,
+            sides: Sides::none(title),
             are_classes: true,
             has_number: false,
             has_letter: false,
@@ -154,14 +145,13 @@ impl Texts {
             are_halves: self.are_halves && is_half(text),
             are_clocks: self.are_clocks && is_clock(text),
             are_hours: self.are_hours && is_hour(text),
+            are_minutes: self.are_minutes && is_minute(text),
             are_numbered: self.are_numbered && is_numbered(text),
             are_utc: self.are_utc && is_utc(text),
             are_of_clocks: self.are_of_clocks && (is_utc(text) || is_of_clock(text)),
             are_grid_zones: self.are_grid_zones && is_grid_zone(text),
             is_beside_none: self.is_beside_none || is_nowhere && is_place(text),
-            are_of_latitude: self.are_of_latitude && is_side(text, b'N', b'S'),
-            are_of_longitude: self.are_of_longitude && is_side(text, b'E', b'W'),
-            is_against: self.is_against || is_against(text, degrees),
+            sides: self.sides.with(text, degrees),
             are_classes: self.are_classes && (is_number || is_letter),
             has_number: self.has_number || is_number,
             has_letter: self.has_letter || is_letter,
@@ -169,9 +159,23 @@ impl Texts {
         }
     }
 
+    /// The first text, as far as texts are told apart; empty where there is none.
+    pub fn first_text(&self) -> &[u8] {
+        self.first.split(|byte| *byte == 0).next().unwrap_or(b"")
+    }
+
+    /// The one text, where all are the same, as far as texts are told apart.
+    pub fn only(&self) -> Option<&[u8]> {
+        if self.are_there && !self.are_several {
+            Some(self.first_text())
+        } else {
+            None
+        }
+    }
+
     /// Whether they say that latitudes are south or longitudes west, which have no minus.
     pub fn are_against(&self) -> bool {
-        self.are_there && self.is_against && (self.are_of_latitude || self.are_of_longitude)
+        self.are_there && self.sides.are_against()
     }
 
     /// Whether they are classes of Argos, numbers and letters.
@@ -184,10 +188,10 @@ impl Texts {
         self.are_halves
             || self.are_clocks
             || self.are_hours
+            || self.are_minutes
             || self.are_of_clocks
             || self.are_grid_zones
-            || self.are_of_latitude
-            || self.are_of_longitude
+            || self.sides.are_some()
             || self.are_classes
             || self.are_utc
             || !self.are_several
@@ -215,9 +219,17 @@ fn add(texts: &mut [Texts], columns: &[usize], fields: &ByteRecord, row: &Row) {
     }
 }
 
-// The texts of so many columns without a record.
-fn no_texts(alloc: Global, columns: usize) -> Result<Vec<Texts>, OutOfMemory> {
-    Ok(vec![in alloc; Texts::none(); columns]?)
+// The texts of columns of these titles without a record.
+fn no_texts(
+    alloc: Global,
+    titles: &ByteRecord,
+    columns: &[usize],
+) -> Result<Vec<Texts>, OutOfMemory> {
+    let mut texts = Vec::new(alloc);
+    for column in columns {
+        texts.push(Texts::none(titles.get(*column).unwrap_or(b"")))?;
+    }
+    Ok(texts)
 }
 
 /// What the texts of some columns are, of a table whose records say this. All records are looked at if one has no coordinates and
@@ -234,7 +246,7 @@ pub fn look_at_unread(
     rows: &[Row],
 ) -> Result<Vec<Texts>, TableFault> {
     let mut table = text.table(alloc)?;
-    let Ok(mut texts) = no_texts(alloc, columns.len()) else {
+    let Ok(mut texts) = no_texts(alloc, table.titles(), columns) else {
         return Err(TableFault::OutOfMemory);
     };
     let has_none = have_places && rows.iter().any(is_nowhere);

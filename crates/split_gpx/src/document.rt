@@ -1,14 +1,14 @@
 // A document that is read: the elements that are open, the track that is, and the table.
 
-use crate::elements::{Element, Open, element_in};
+use crate::elements::{Element, Open, element_in, is_of_point};
 use crate::fault::GpxCause;
 use crate::markup::{Markup, Tag};
 use crate::references::left_from_bad_reference;
 use crate::signs::{local_name, without_blanks};
 use crate::stop::{Stop, refused};
-use crate::tracks::{Point, TITLES, TITLES_OF_ONE, Track};
+use crate::tracks::{GpxTable, Point, TITLES, TITLES_OF_ONE, Track};
 use memchr::memmem;
-use std::alloc::{AllocError, Global};
+use std::alloc::Global;
 
 // How many elements may be open at once. GPX has some five, and what programs add to it some more.
 const MOST_OPEN: usize = 100;
@@ -31,13 +31,20 @@ pub(crate) struct Document<'a> {
     /// How many tracks without a name have points, and which is the first of them.
     nameless_tracks: usize,
     first_nameless: usize,
+    /// How many points began that are not read.
+    other_points: usize,
 }
 
-// The titles and the records of a table.
-fn table_with(alloc: Global, titles: &[u8], records: &[u8]) -> Result<Vec<u8>, AllocError> {
-    let mut table = titles.to_vec(alloc)?;
-    table.extend_from_slice(records)?;
-    Ok(table)
+// The table of titles and records, beside which so many points are not read.
+fn table_with(
+    alloc: Global,
+    titles: &[u8],
+    records: &[u8],
+    other_points: usize,
+) -> Result<GpxTable, Stop> {
+    let mut text = titles.to_vec(alloc)?;
+    text.extend_from_slice(records)?;
+    Ok(GpxTable { text, other_points })
 }
 
 impl<'a> Document<'a> {
@@ -54,6 +61,7 @@ impl<'a> Document<'a> {
             nameless: Vec::new(alloc),
             nameless_tracks: 0,
             first_nameless: 0,
+            other_points: 0,
         }
     }
 
@@ -131,6 +139,8 @@ impl<'a> Document<'a> {
                 longitude: tag.longitude,
                 latitude: tag.latitude,
             })?;
+        } else if is_of_point(tag.name) {
+            self.other_points = self.other_points.saturating_add(1);
         }
         if self.wants_text(element) {
             self.content = Some(behind);
@@ -217,7 +227,7 @@ impl<'a> Document<'a> {
 
     /// The table of a document whose text has ended. Tracks without a name are of one animal, which no column has, where there is
     /// one such track alone or all are known to be of one.
-    pub(crate) fn finish(self, are_of_one: bool) -> Result<Vec<u8>, Stop> {
+    pub(crate) fn finish(self, are_of_one: bool) -> Result<GpxTable, Stop> {
         if self.is_inside() {
             return Err(refused(&[], GpxCause::Unclosed));
         }
@@ -228,13 +238,13 @@ impl<'a> Document<'a> {
             return Err(Stop::NoPoints);
         }
         if self.nameless.is_empty() {
-            return Ok(table_with(self.alloc, TITLES, &self.named)?);
+            return table_with(self.alloc, TITLES, &self.named, self.other_points);
         }
         if !self.named.is_empty() || self.nameless_tracks > 1 && !are_of_one {
             return Err(Stop::NoName {
                 track: self.first_nameless,
             });
         }
-        Ok(table_with(self.alloc, TITLES_OF_ONE, &self.nameless)?)
+        table_with(self.alloc, TITLES_OF_ONE, &self.nameless, self.other_points)
     }
 }

@@ -22,6 +22,14 @@ pub(crate) struct Open<'a> {
     pub(crate) element: Element,
 }
 
+/// Whether a name is that of a point: of a track, of a route, or of its own.
+pub(crate) fn is_of_point(name: &[u8]) -> bool {
+    let name = local_name(name);
+    [b"trkpt".as_slice(), b"rtept", b"wpt"]
+        .iter()
+        .any(|own| name == *own)
+}
+
 /// The element of a name that is directly in another. Namespaces do not count.
 pub(crate) fn element_in(parent: Element, name: &[u8]) -> Element {
     match (parent, local_name(name)) {

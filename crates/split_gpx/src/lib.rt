@@ -19,3 +19,4 @@ mod tracks;
 pub use declaration::declared_encoding;
 pub use fault::{GpxCause, GpxFault};
 pub use reading::table_of_gpx;
+pub use tracks::GpxTable;

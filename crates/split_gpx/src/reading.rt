@@ -7,6 +7,7 @@ use crate::fault::{GpxCause, GpxFault};
 use crate::markup::split_markup;
 use crate::signs::split_before;
 use crate::stop::Stop;
+use crate::tracks::GpxTable;
 use std::alloc::Global;
 
 // Reads a text into a document.
@@ -25,7 +26,7 @@ fn read_all<'a>(document: &mut Document<'a>, text: &'a [u8]) -> Result<(), Stop>
 }
 
 // The table of a text.
-fn table_of(alloc: Global, text: &[u8], are_of_one: bool) -> Result<Vec<u8>, Stop> {
+fn table_of(alloc: Global, text: &[u8], are_of_one: bool) -> Result<GpxTable, Stop> {
     let mut document = Document::new(alloc);
     read_all(&mut document, without_declaration(without_mark(text)))?;
     document.finish(are_of_one)
@@ -35,7 +36,8 @@ fn table_of(alloc: Global, text: &[u8], are_of_one: bool) -> Result<Vec<u8>, Sto
 /// stand between quotes. Its records are the points of each `trk` of `gpx`, in their order, and of a `trk` those of each
 /// `trkseg`. The animal is the first `name` of the `trk`, in one line; where one `trk` alone has points and has no name, or all
 /// that have points have none and are of one animal, the table has no column of the animal. A point without a time, a longitude
-/// or a latitude has an empty cell. Waypoints, routes and what else there is are not read. Namespaces do not count.
+/// or a latitude has an empty cell. Waypoints, routes and what else there is are not read, and their points counted. Namespaces
+/// do not count.
 ///
 /// The text is in UTF-8, whatever encoding it names. It may begin with a byte order mark. It is not looked at whether the
 /// prefixes of namespaces are declared, whether other attributes than `lon` and `lat` stand twice in a tag, and which
@@ -46,7 +48,7 @@ fn table_of(alloc: Global, text: &[u8], are_of_one: bool) -> Result<Vec<u8>, Sto
 /// The text is not UTF-8, it is no XML, has a document type, an entity that is none of XML, or more than 100 elements in
 /// each other, its outermost element is not `gpx`, it has no track point, a track of several has points and no name, or memory
 /// ran out.
-pub fn table_of_gpx(alloc: Global, text: &[u8], are_of_one: bool) -> Result<Vec<u8>, GpxFault> {
+pub fn table_of_gpx(alloc: Global, text: &[u8], are_of_one: bool) -> Result<GpxTable, GpxFault> {
     let Ok(characters) = str::from_utf8(text) else {
         return Err(GpxFault::NotUtf8);
     };

@@ -9,6 +9,15 @@ pub(crate) const TITLES: &[u8] = b"\"animal\",\"time\",\"lon\",\"lat\"\n";
 
 pub(crate) const TITLES_OF_ONE: &[u8] = b"\"time\",\"lon\",\"lat\"\n";
 
+/// The table of a text.
+#[derive(Drop, PartialEq, Eq, Debug)]
+pub struct GpxTable {
+    /// Its text, in CSV.
+    pub text: Vec<u8>,
+    /// How many points are not read: waypoints, those of routes, and those of tracks that stand in no segment.
+    pub other_points: usize,
+}
+
 /// A point, with what it has.
 #[derive(Clone, Copy)]
 pub(crate) struct Point<'a> {

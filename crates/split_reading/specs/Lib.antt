@@ -3,6 +3,7 @@ pub mod Ledger
 pub mod Marks
 pub mod Moments
 pub mod Places
+pub mod Systems
 pub mod Told
 pub mod Words
 pub mod Zones

@@ -30,7 +30,7 @@ time_text rules fields = text_in rules rules.time.now fields
 
 -- a moment of which no clock was asked
 abbrev pub plain : Moment → ClockMoment
-plain moment = record { moment = moment; is_twice = false }
+plain moment = record { moment = moment; is_local = false; is_twice = false }
 
 -- a whole second
 abbrev pub at_second : ℕ → ClockMoment

@@ -61,6 +61,7 @@ reason_in rules second fields = do
 abbrev pub fix_at : Rules → Position → Bool → ClockMoment → Option Zone → Option Reason → Record → ToldFix
 fix_at rules position is_used time zone left_for fields = record {
   moment = time.moment;
+  is_local = time.is_local;
   is_twice = time.is_twice;
   metres = position.metres;
   degrees = position.degrees;

@@ -13,6 +13,10 @@ use Rattle.split_reading.specs.Cells.{Record, cell, is_missing}
 abbrev pub is_south_in : ℕ → Option Bool
 is_south_in letter = if letter == 78 || letter == 110 then Some false else if letter == 83 || letter == 115 then Some true else None
 
+-- whether the band of a letter is in the south, from C to M, or in the north, from N to X
+abbrev pub is_south_in_band : ℕ → Option Bool
+is_south_in_band letter = if nat_le 67 letter && nat_le letter 77 then Some true else if nat_le 78 letter && nat_le letter 88 then Some false else None
+
 -- the last byte of a text, and what stands before it
 abbrev pub last_byte : List ℕ → ℕ
 last_byte text = slice_index text (length text - 1)
@@ -42,6 +46,10 @@ zone_with None is_south = None
 -- the zone of a text
 abbrev pub zone_of : List ℕ → Option Zone
 zone_of text = if length text == 0 then None else zone_with (number_of (number_text (before_last_byte text))) (is_south_in (last_byte text))
+
+-- the zone of a text with the letter of a band
+abbrev pub zone_of_band : List ℕ → Option Zone
+zone_of_band text = if length text == 0 then None else zone_with (number_of (number_text (before_last_byte text))) (is_south_in_band (last_byte text))
 
 -- a zone that was found, or the fault that there is none
 abbrev pub found_zone : ℕ → Option Zone → Result (Option Zone) CellFault

@@ -108,6 +108,7 @@ fn second_in(text: &[u8]) -> Result<ClockMoment, CellFault>
     match seconds_in(text) {
         Some(moment) if moment.second <= SECOND_LIMIT => Ok(ClockMoment {
             moment,
+            is_local: false,
             is_twice: false,
         }),
         _ => Err(CellFault::NotSecond),
@@ -173,6 +174,7 @@ pub(crate) fn moment_in(
                 second: u64::from(when.number - 1),
                 nanosecond: 0,
             },
+            is_local: false,
             is_twice: false,
         });
     }

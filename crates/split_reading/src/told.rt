@@ -22,6 +22,8 @@ use split_tracks::Reason;
 #[derive(Clone, Copy, PartialEq, Eq, Debug)]
 pub struct ToldFix {
     pub moment: Moment,
+    /// Whether its time does not say how far its clock is ahead of UTC, and so is by the clock that was asked for.
+    pub is_local: bool,
     /// Whether the clock showed its time twice.
     pub is_twice: bool,
     /// Easting and northing in whole units; none where the record has longitude and latitude alone.
@@ -142,6 +144,7 @@ fn fix_at(
 {
     ToldFix {
         moment: time.moment,
+        is_local: time.is_local,
         is_twice: time.is_twice,
         metres: at.metres,
         degrees: at.degrees,

@@ -2,7 +2,7 @@
 
 ghost use Rattle.std.specs.Prelude.{◌≡◌};
 ghost use Rattle.csv.specs.Records.{fields_of};
-ghost use Rattle.split_reading.specs.Zones.{is_south_in, number_of, number_text, zone_at, zone_in, zone_of, zone_or_at};
+ghost use Rattle.split_reading.specs.Zones.{is_south_in, is_south_in_band, number_of, number_text, zone_at, zone_in, zone_of, zone_of_band, zone_or_at};
 
 use crate::cells::{cell, is_missing};
 use crate::fault::CellFault;
@@ -26,6 +26,17 @@ fn is_south_in(letter: u8) -> Option<bool>
     match letter {
         b'N' | b'n' => Some(false),
         b'S' | b's' => Some(true),
+        _ => None,
+    }
+}
+
+// Whether the band of a letter, of eight degrees of latitude, is in the south; `None` where it is of none.
+fn is_south_in_band(letter: u8) -> Option<bool>
+    ensures { result ≡ is_south_in_band letter }
+{
+    match letter {
+        b'C'..=b'M' => Some(true),
+        b'N'..=b'X' => Some(false),
         _ => None,
     }
 }
@@ -61,6 +72,18 @@ pub fn zone_of(text: &[u8]) -> Option<Zone>
     let is_south = is_south_in(*letter)?;
     let number = number_of(number_text(before))?;
     Some(Zone { number, is_south })
+}
+
+/// The zone of a text with the letter of a band of latitudes, as `33T`, which is a capital from C to M in the south, and from N to X
+/// in the north.
+pub fn zone_of_band(text: &[u8]) -> Option<Zone>
+    ensures { result ≡ zone_of_band text.now }
+{
+    let (letter, before) = text.split_last()?;
+    match (number_of(number_text(before)), is_south_in_band(*letter)) {
+        (Some(number), Some(is_south)) => Some(Zone { number, is_south }),
+        _ => None,
+    }
 }
 
 /// The zone of a longitude and a latitude in trillionths of a degree: by the longitude alone, and of the south where the latitude

@@ -5,13 +5,17 @@ ghost use Rattle.split_refusal.specs.Refused.{IsOfKind, Names};
 
 use crate::forms::without_blanks;
 use crate::kind::Kind;
+use crate::parts::form_of_columns;
 use crate::push::{Field, field_at, push, push_field, push_number};
 use crate::refusal::{Refusal, Sentence};
-use crate::remedies::push_missing;
-use crate::times::{clock_sentence, missing_time, number_sentence, second_sentence, time_sentence};
+use crate::remedies::push_number_remedy;
+use crate::times::{
+    clock_sentence, missing_time, number_sentence, second_sentence, several_sentence, time_sentence,
+};
 use crate::zones::zone_sentence;
 use range_plane::OutOfMemory;
 use split_reading::CellFault;
+use split_times::TimeFault;
 use split_titles::is_of_animal;
 use std::alloc::{AllocError, Global};
 
@@ -107,7 +111,7 @@ fn field_sentence(
 // That a field is no number.
 fn no_number_sentence(alloc: Global, field: Field<'_>) -> Result<Sentence, OutOfMemory> {
     let mut sentence = field_sentence(alloc, Kind::Number, field, NO_NUMBER)?;
-    push_missing(&mut sentence.text, field.cell)?;
+    push_number_remedy(&mut sentence.text, field.cell)?;
     Ok(sentence)
 }
 
@@ -147,6 +151,40 @@ pub(crate) fn joined(
     Ok((titles, cells))
 }
 
+// The form that several columns of the time have together, by their titles and what a record has there; none where it is the one
+// that is named.
+fn form_of_several(alloc: Global, shown: &RecordShown<'_>) -> Result<Option<String>, OutOfMemory> {
+    let mut titles: Vec<&[u8]> = Vec::new(alloc);
+    let mut texts: Vec<&[u8]> = Vec::new(alloc);
+    for column in shown.time {
+        let field = field_at(shown.titles, shown.fields, Some(*column));
+        titles.push(field.title)?;
+        texts.push(without_blanks(field.cell))?;
+    }
+    if titles.len() < 2 {
+        return Ok(None);
+    }
+    match form_of_columns(alloc, &titles, &texts)? {
+        Some(form) if form.as_str() != shown.forms => Ok(Some(form)),
+        _ => Ok(None),
+    }
+}
+
+// The sentence of a field that is no time.
+fn no_time_sentence(
+    alloc: Global,
+    fault: TimeFault,
+    shown: &RecordShown<'_>,
+    field: Field<'_>,
+) -> Result<Sentence, OutOfMemory> {
+    match form_of_several(alloc, shown)? {
+        Some(form) if fault == TimeFault::NotTime => {
+            several_sentence(alloc, field, shown.forms, &form)
+        }
+        _ => time_sentence(alloc, field, fault, shown.forms),
+    }
+}
+
 // What is wrong with the time of a record, if that is the fault.
 fn sentence_of_time(
     alloc: Global,
@@ -156,7 +194,7 @@ fn sentence_of_time(
 ) -> Result<Option<Sentence>, OutOfMemory> {
     let sentence = match fault {
         CellFault::NoTime => missing_time(alloc, field, shown.time.len())?,
-        CellFault::Time { fault } => time_sentence(alloc, field, fault, shown.forms)?,
+        CellFault::Time { fault } => no_time_sentence(alloc, fault, shown, field)?,
         CellFault::Number { fault } => number_sentence(alloc, field, fault)?,
         CellFault::Clock { fault } => clock_sentence(alloc, field, fault, shown.clock)?,
         CellFault::NotSecond => second_sentence(alloc, field)?,

@@ -3,7 +3,7 @@
 use crate::digits::are_digits;
 
 // Whether a text is written as a form, in which 0 stands for any digit.
-fn has_form(text: &[u8], form: &[u8]) -> bool {
+pub(crate) fn has_form(text: &[u8], form: &[u8]) -> bool {
     text.len() == form.len()
         && text.iter().zip(form).all(|(byte, sign)| {
             if *sign == b'0' {

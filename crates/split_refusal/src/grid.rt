@@ -37,6 +37,9 @@ fn limit_in_metres(unit: Scale) -> u64 {
     }
 }
 
+// What is to be done about it.
+const REMEDY: &str = ": if the fix is right, make a table of each place, and else leave it out";
+
 // That a place is off the grid.
 fn sentence(
     alloc: Global,
@@ -51,6 +54,7 @@ fn sentence(
     push(&mut text, " north is off the grid, which goes from 0 to ")?;
     push_number(&mut text, limit_in_metres(unit))?;
     push(&mut text, " metres")?;
+    push(&mut text, REMEDY)?;
     Ok(Sentence {
         kind: Kind::Grid,
         text,
@@ -61,7 +65,8 @@ fn sentence(
 pub fn refused_no_place(alloc: Global, record: u32) -> Refusal
     ensures { Names (Some «record») result }
 {
-    let words = b"its longitude and latitude have no place in the zone";
+    let words =
+        b"its longitude and latitude have no place in the zone: if the fix is right, make a table of each place, and else leave it out";
     Refusal::new(alloc, Kind::Grid, Some(record), words)
 }
 

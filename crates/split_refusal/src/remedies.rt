@@ -62,8 +62,33 @@ fn is_word(cell: &[u8]) -> bool {
     is_short && without_blanks(cell) == cell && cell.iter().all(|byte| is_of_word(*byte))
 }
 
-/// Appends by which option a field that is no number is missing, where it may be a word for that.
-pub(crate) fn push_missing(text: &mut Vec<u8>, cell: &[u8]) -> Result<(), AllocError> {
+// How a number is to be written that is written otherwise than it is read.
+fn words_of_number(cell: &[u8]) -> Option<&'static str> {
+    let begins = cell.iter().any(|byte| byte.is_ascii_digit());
+    if !begins || !cell.iter().all(|byte| is_of_number(*byte)) {
+        None
+    } else if cell.contains(&b',') {
+        Some(": write its decimals behind a point, and nothing before thousands")
+    } else if cell.iter().any(|byte| byte.eq_ignore_ascii_case(&b'e')) {
+        Some(": write all of its digits")
+    } else if cell.starts_with(b"+") {
+        Some(": write it without +")
+    } else {
+        None
+    }
+}
+
+// Whether a byte may stand in a number, in one form or another.
+fn is_of_number(byte: u8) -> bool {
+    byte.is_ascii_digit() || b"+-.,eE".contains(&byte)
+}
+
+/// Appends what is to be done about a field that is no number: how it is to be written, or by which option it is missing, where it
+/// may be a word for that.
+pub(crate) fn push_number_remedy(text: &mut Vec<u8>, cell: &[u8]) -> Result<(), AllocError> {
+    if let Some(words) = words_of_number(cell) {
+        return push(text, words);
+    }
     if !is_word(cell) {
         return Ok(());
     }
@@ -137,6 +162,20 @@ fn has_decimal_comma(alloc: Global, cell: &[u8]) -> Result<bool, OutOfMemory> {
     }
     let text = with_points(alloc, cell)?;
     Ok(has_iso_form(&text) || is_number(&text))
+}
+
+// Forms of days and clocks without signs between.
+const DIGITS: [&str; 3] = ["%Y%m%d", "%Y%m%d%H%M", "%Y%m%d%H%M%S"];
+
+/// The form of a number that may be a day, or a day and a clock, without signs between: of a year from 1900 to 2099.
+pub(crate) fn form_of_digits(cell: &[u8]) -> Option<&'static str> {
+    if !cell.starts_with(b"19") && !cell.starts_with(b"20") {
+        return None;
+    }
+    DIGITS
+        .iter()
+        .find(|form| has_form(form.as_bytes(), cell))
+        .copied()
 }
 
 /// Appends what is to be done about a field that is no time of ISO: by which option it is read, where it may be one of another

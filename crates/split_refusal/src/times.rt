@@ -1,15 +1,15 @@
 // Sentences about times.
 
 use crate::digits::is_number;
-use crate::forms::{has_iso_form, without_blanks};
+use crate::forms::{has_iso_day, has_iso_form, without_blanks};
 use crate::kind::Kind;
 use crate::push::{Field, push, push_field};
 use crate::refusal::Sentence;
-use crate::remedies::push_form;
+use crate::remedies::{form_of_digits, push_form};
 use range_plane::OutOfMemory;
 use split_clock::NoMoment;
 use split_times::{NumberFault, TimeFault, iso_moment};
-use std::alloc::Global;
+use std::alloc::{AllocError, Global};
 
 // Why a field is no time that is read.
 #[derive(Clone, Copy, PartialEq, Eq, Debug)]
@@ -71,6 +71,27 @@ fn number_words(fault: NumberFault) -> &'static str {
 const REMEDY: &str =
     ": write a time such as 2024-05-01 00:30:04, or seconds since 1970, or seconds since another start in a column \
                       'second'";
+
+// The remedy of a year that may have been written with two digits.
+const TWO_DIGITS: &str = ": if its year was written with two digits, write all four";
+
+// Whether a field is a day of a year of the first century.
+fn is_of_first_century(cell: &[u8]) -> bool {
+    let text = without_blanks(cell);
+    has_iso_day(text) && text.starts_with(b"00")
+}
+
+// Appends what is to be done about a number that is no second since 1970.
+fn push_number_form(text: &mut Vec<u8>, cell: &[u8]) -> Result<(), AllocError> {
+    match form_of_digits(without_blanks(cell)) {
+        Some(form) => {
+            push(text, ": name its form, as by --time-format '")?;
+            push(text, form)?;
+            push(text, "'")
+        }
+        None => push(text, REMEDY),
+    }
+}
 
 // Whether a field has no time.
 fn is_missing(cell: &[u8]) -> bool {
@@ -148,7 +169,8 @@ fn sentence(alloc: Global, field: Field<'_>, why: Why) -> Result<Sentence, OutOf
         push_field(&mut text, field, why.words())?;
     }
     match why {
-        Why::Number(_) => push(&mut text, REMEDY)?,
+        Why::Number(_) => push_number_form(&mut text, field.cell)?,
+        Why::Outside if is_of_first_century(field.cell) => push(&mut text, TWO_DIGITS)?,
         Why::OtherForm => push_form(alloc, &mut text, field.cell)?,
         _ => {}
     }
@@ -179,20 +201,49 @@ pub(crate) fn missing_time(
     })
 }
 
+// Appends forms, between which `|` stands.
+fn push_forms(text: &mut Vec<u8>, forms: &str) -> Result<(), AllocError> {
+    for (place, form) in forms.split('|').enumerate() {
+        if place > 0 {
+            push(text, " or ")?;
+        }
+        push(text, form)?;
+    }
+    Ok(())
+}
+
 // That a field has none of the forms that are named, between which `|` stands.
 fn form_sentence(alloc: Global, field: Field<'_>, forms: &str) -> Result<Sentence, OutOfMemory> {
     let mut text = Vec::new(alloc);
     push_field(&mut text, field, " and not a time of the form ")?;
-    for (place, form) in forms.split('|').enumerate() {
-        if place > 0 {
-            push(&mut text, " or ")?;
-        }
-        push(&mut text, form)?;
-    }
+    push_forms(&mut text, forms)?;
     Ok(Sentence {
         kind: Kind::Time,
         text,
     })
+}
+
+// That the text of several columns has none of the forms that are named, or none was, and which form it has.
+pub(crate) fn several_sentence(
+    alloc: Global,
+    field: Field<'_>,
+    forms: &str,
+    form: &str,
+) -> Result<Sentence, OutOfMemory> {
+    let mut sentence = if forms.is_empty() {
+        let mut text = Vec::new(alloc);
+        push_field(&mut text, field, Why::OtherForm.words())?;
+        Sentence {
+            kind: Kind::Time,
+            text,
+        }
+    } else {
+        form_sentence(alloc, field, forms)?
+    };
+    push(&mut sentence.text, ": name its form, as by --time-format '")?;
+    push(&mut sentence.text, form)?;
+    push(&mut sentence.text, "'")?;
+    Ok(sentence)
 }
 
 // Why a field in a column of times is none. Their forms are named, or empty where they are those of ISO.

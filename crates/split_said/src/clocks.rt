@@ -18,34 +18,59 @@ fn form_text(alloc: Global, form: &[u8], clock: &[u8]) -> Result<Vec<u8>, AllocE
     Ok(text)
 }
 
-// That records lie in an hour that comes twice.
-fn twice_text(
+// What is odd about the time of a fix.
+#[derive(Clone, Copy)]
+enum Odd {
+    // It has no offset, and others have one.
+    Local,
+    // The clock showed it twice.
+    Twice,
+}
+
+// What is said of records whose times are odd, behind their count.
+fn odd_text(
     alloc: Global,
+    odd: Odd,
     records: &[u32],
     clock: &[u8],
     exports: &Exports<'_>,
 ) -> Result<Vec<u8>, AllocError> {
     let mut text = Vec::new(alloc);
-    push(&mut text, "records lie in the hour that comes twice in ")?;
+    push(
+        &mut text,
+        match odd {
+            Odd::Local => "times have no offset, which others have, and are read in ",
+            Odd::Twice => "records lie in the hour that comes twice in ",
+        },
+    )?;
     text.extend_from_slice(clock)?;
     push(&mut text, ": records ")?;
     push_records(&mut text, records, exports)?;
     Ok(text)
 }
 
-// Whether a record tells of a fix whose time the clock showed twice.
-fn is_twice(row: &Row) -> bool {
+// Whether a record tells of a fix whose time is odd.
+fn is_odd(row: &Row, odd: Odd) -> bool {
+    match (row.told, odd) {
+        (Told::Fix(fix), Odd::Local) => fix.is_local,
+        (Told::Fix(fix), Odd::Twice) => fix.is_twice,
+        (Told::LeftOut(_), _) => false,
+    }
+}
+
+// Whether a record tells of a fix whose time has an offset, or is a number of seconds.
+fn has_offset(row: &Row) -> bool {
     match row.told {
-        Told::Fix(fix) => fix.is_twice,
+        Told::Fix(fix) => !fix.is_local,
         Told::LeftOut(_) => false,
     }
 }
 
-// The records whose times the clock showed twice.
-fn records_twice(alloc: Global, rows: &[Row]) -> Result<Vec<u32>, OutOfMemory> {
+// The records whose times are odd.
+fn odd_records(alloc: Global, rows: &[Row], odd: Odd) -> Result<Vec<u32>, OutOfMemory> {
     let mut records = Vec::new(alloc);
     for (index, row) in rows.iter().enumerate() {
-        if is_twice(row) {
+        if is_odd(row, odd) {
             let index = u32::try_from(index).unwrap_or(u32::MAX);
             records.push(index.saturating_add(1))?;
         }
@@ -53,8 +78,22 @@ fn records_twice(alloc: Global, rows: &[Row]) -> Result<Vec<u32>, OutOfMemory> {
     Ok(records)
 }
 
-// Says by which form and which clock times are read, where that does not go without saying, and which records lie in an hour that
-// comes twice.
+// Says which records have odd times, if some have.
+fn tell_odd(
+    alloc: Global,
+    said: &mut Said,
+    sheet: &Sheet<'_>,
+    rows: &[Row],
+    odd: Odd,
+) -> Result<(), OutOfMemory> {
+    let records = odd_records(alloc, rows, odd)?;
+    let clock = sheet.times.clock_name;
+    let text = odd_text(alloc, odd, &records, clock, &sheet.exports)?;
+    said.say_counted(alloc, records.len(), &text)
+}
+
+// Says by which form and which clock times are read, where that does not go without saying, which have no offset beside others that
+// have one, and which records lie in an hour that comes twice.
 pub(crate) fn tell_clock(
     alloc: Global,
     said: &mut Said,
@@ -65,7 +104,8 @@ pub(crate) fn tell_clock(
     if !sheet.columns.time.is_empty() && !times.form.is_empty() {
         said.say(alloc, &form_text(alloc, times.form, times.clock_name)?)?;
     }
-    let records = records_twice(alloc, rows)?;
-    let text = twice_text(alloc, &records, times.clock_name, &sheet.exports)?;
-    said.say_counted(alloc, records.len(), &text)
+    if rows.iter().any(has_offset) {
+        tell_odd(alloc, said, sheet, rows, Odd::Local)?;
+    }
+    tell_odd(alloc, said, sheet, rows, Odd::Twice)
 }

@@ -8,9 +8,14 @@ use crate::words::{push, push_option, push_zone_option};
 use range_plane::Scale;
 use split_reading::{Row, Zone, zone_at};
 use split_refusal::Kind;
-use split_titles::Pair;
+use split_titles::{Pair, has_word, is_of_places, trimmed};
 use std::alloc::{AllocError, Global};
 use std::num::saturating_f64_to_i64;
+
+// Words of usual titles of longitude and latitude.
+const LONGITUDES: [&str; 4] = ["longitude", "long", "lon", "lng"];
+
+const LATITUDES: [&str; 2] = ["latitude", "lat"];
 
 // How many fixes are not a few, of which one may be wrong.
 const FEW: usize = 3;
@@ -82,10 +87,58 @@ fn zone_of(longitude: f64, latitude: f64) -> Zone {
     )
 }
 
+// The longitude and the latitude of a table whose metres are read, by their titles.
+fn unread_degrees<'a>(sheet: &Sheet<'a>) -> Option<(&'a [u8], &'a [u8])> {
+    let longitude = sheet.titles.iter().find(|title| is_of_places(title)
+        && has_word(title, &LONGITUDES))?;
+    let latitude = sheet
+        .titles
+        .iter()
+        .find(|title| is_of_places(title) && has_word(title, &LATITUDES))?;
+    Some((trimmed(longitude), trimmed(latitude)))
+}
+
+// Appends how longitude and latitude are named that stand in other columns.
+fn push_others(
+    text: &mut Vec<u8>,
+    titles: (&[u8], &[u8]),
+    others: (&[u8], &[u8]),
+) -> Result<(), AllocError> {
+    push(text, ", and there are ")?;
+    text.extend_from_slice(others.0)?;
+    push(text, " and ")?;
+    text.extend_from_slice(others.1)?;
+    push(text, ": name these by ")?;
+    push_option(text, "--lon", others.0)?;
+    push(text, " ")?;
+    push_option(text, "--lat", others.1)?;
+    push(text, "; or, if ")?;
+    text.extend_from_slice(titles.0)?;
+    push(text, " and ")?;
+    text.extend_from_slice(titles.1)?;
+    push(text, " are metres, add 1000 to all")
+}
+
+// Appends how columns of metres are named that have degrees, the first of which are these.
+fn push_named(
+    text: &mut Vec<u8>,
+    titles: (&[u8], &[u8]),
+    first: (f64, f64),
+) -> Result<(), AllocError> {
+    push(text, ": say so by ")?;
+    push_option(text, "--lon", titles.0)?;
+    push(text, " ")?;
+    push_option(text, "--lat", titles.1)?;
+    push(text, " ")?;
+    push_zone_option(text, zone_of(first.0, first.1))?;
+    push(text, "; or, if they are metres, add 1000 to all")
+}
+
 // That columns of metres have degrees, the first of which are these.
 fn degrees_text(
     alloc: Global,
     titles: (&[u8], &[u8]),
+    others: Option<(&[u8], &[u8])>,
     first: (f64, f64),
     are_all: bool,
 ) -> Result<Vec<u8>, AllocError> {
@@ -97,17 +150,15 @@ fn degrees_text(
     push(
         &mut text,
         if are_all {
-            " lie within 180 by 90, as longitude and latitude do: say so by "
+            " lie within 180 by 90, as longitude and latitude do"
         } else {
-            " lie within 360 by 90, as longitude and latitude do: say so by "
+            " lie within 360 by 90, as longitude and latitude do"
         },
     )?;
-    push_option(&mut text, "--lon", titles.0)?;
-    push(&mut text, " ")?;
-    push_option(&mut text, "--lat", titles.1)?;
-    push(&mut text, " ")?;
-    push_zone_option(&mut text, zone_of(first.0, first.1))?;
-    push(&mut text, "; or, if they are metres, add 1000 to all")?;
+    match others {
+        Some(others) => push_others(&mut text, titles, others)?,
+        None => push_named(&mut text, titles, first)?,
+    }
     Ok(text)
 }
 
@@ -139,6 +190,7 @@ pub(crate) fn check_degrees(
         title_at(sheet, metres.first),
         title_at(sheet, metres.second),
     );
-    let text = degrees_text(alloc, titles, first, counts.are_all_near());
+    let others = unread_degrees(sheet);
+    let text = degrees_text(alloc, titles, others, first, counts.are_all_near());
     Err(refused(alloc, Kind::Degrees, None, text))
 }

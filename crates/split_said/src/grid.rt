@@ -30,20 +30,27 @@ pub struct Grid {
     pub is_projected: bool,
 }
 
-// Says that coordinates are those of the table, and of which zone.
-fn tell_zone(alloc: Global, said: &mut Said, zone: Option<Zone>) -> Result<(), OutOfMemory> {
+// Says that coordinates are those of the table, and of which zone or reference system, if one was named.
+fn tell_zone(alloc: Global, said: &mut Said, sheet: &Sheet<'_>) -> Result<(), OutOfMemory> {
     let mut text = Vec::new(alloc);
-    push(&mut text, "coordinates are those of the table; zone: ")?;
-    match zone {
-        Some(zone) => push_zone(&mut text, zone)?,
-        None => push(&mut text, "not known")?,
+    push(&mut text, "coordinates are those of the table; ")?;
+    match sheet.zone {
+        Some(zone) => {
+            push(&mut text, "zone: ")?;
+            push_zone(&mut text, zone)?;
+        }
+        None if sheet.system.is_empty() => push(&mut text, "zone: not known")?,
+        None => {
+            push(&mut text, "reference system: ")?;
+            text.extend_from_slice(sheet.system)?;
+        }
     }
     said.say(alloc, &text)
 }
 
 // The grid of metres that are those of the table.
 fn own_grid(alloc: Global, said: &mut Said, sheet: &Sheet<'_>, rows: &[Row]) -> Result<Grid, Stop> {
-    tell_zone(alloc, said, sheet.zone)?;
+    tell_zone(alloc, said, sheet)?;
     let shift = find_shift(alloc, said, sheet.unit, rows)?;
     Ok(Grid {
         zone: sheet.zone,

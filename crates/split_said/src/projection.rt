@@ -81,17 +81,27 @@ fn may_be_swapped(longitude: i64, latitude: i64) -> bool {
     longitude.unsigned_abs() <= MOST_LATITUDE && latitude.unsigned_abs() <= MOST_LONGITUDE / 2
 }
 
+// What to do about a longitude and a latitude that may be metres, and about such as may have been multiplied too.
+const METRES: &str =
+    ": coordinates in metres are named by --easting and --northing, and a word for what is missing by --na";
+
+const GREAT: &str =
+    ": coordinates in metres are named by --easting and --northing, degrees that were multiplied, as by 10,000,000, are divided first, \
+     and a word for what is missing is named by --na";
+
 // Appends what to do about a longitude and a latitude of no place.
 fn push_remedy(text: &mut Vec<u8>, longitude: i64, latitude: i64) -> Result<(), AllocError> {
     if may_be_swapped(longitude, latitude) {
         let swapped = ": are their columns to be named the other way, by --lon and --lat?";
         return push(text, swapped);
     }
-    let are_two = longitude != latitude;
-    if are_two && is_no_longitude(longitude) && is_no_latitude(latitude) {
-        let metres =
-            ": coordinates in metres are named by --easting and --northing, and a word for what is missing by --na";
-        return push(text, metres);
+    if is_no_longitude(longitude) && is_no_latitude(latitude) {
+        if are_most(longitude) && are_most(latitude) {
+            return push(text, GREAT);
+        }
+        if longitude != latitude {
+            return push(text, METRES);
+        }
     }
     push(text, ": a word for what is missing is named by --na")?;
     let odd = if is_no_longitude(longitude) {

@@ -97,13 +97,24 @@ fn scale_text(alloc: Global, name: &[u8], scale: f64) -> Result<Vec<u8>, AllocEr
     Ok(text)
 }
 
-// The same, with the remedy.
-fn refused_text(alloc: Global, name: &[u8], scale: f64) -> Result<Vec<u8>, AllocError> {
+// The same, with the remedy, of one animal or of several.
+fn refused_text(
+    alloc: Global,
+    name: &[u8],
+    scale: f64,
+    are_several: bool,
+) -> Result<Vec<u8>, AllocError> {
     let mut text = scale_text(alloc, name, scale)?;
     push(
         &mut text,
         ": take a zone or a reference system of the place",
     )?;
+    if are_several {
+        push(
+            &mut text,
+            ", or make a table of each place where animals live far apart",
+        )?;
+    }
     Ok(text)
 }
 
@@ -120,7 +131,7 @@ pub(crate) fn check_scale(
     let name = herd.name(worst.animal);
     let wrong = wrong_by(worst.scale);
     if !(wrong <= REFUSED) {
-        let text = refused_text(alloc, name, worst.scale);
+        let text = refused_text(alloc, name, worst.scale, herd.order.len() > 1);
         return Err(refused(alloc, Kind::Scale, None, text));
     }
     if wrong > TOLD {

@@ -115,11 +115,25 @@ fn has_sensor(ledger: &Ledger, counts: &[usize], sensor: &[u8]) -> bool {
         .any(|(own, count)| *count > 0 && comes_to(own, sensor))
 }
 
-// That no fix is of this sensor.
-fn absent_text(alloc: Global, sensor: &[u8]) -> Result<Vec<u8>, AllocError> {
+// That no fix is of this sensor, and of which they are, where a column has them.
+fn absent_text(
+    alloc: Global,
+    sensor: &[u8],
+    column: Option<usize>,
+    sensors: &[Ranked],
+) -> Result<Vec<u8>, AllocError> {
     let mut text = Vec::new(alloc);
     push(&mut text, "--sensor: no fix is of ")?;
     text.extend_from_slice(word_or_none(sensor))?;
+    if column.is_none() {
+        push(
+            &mut text,
+            ": no column has a usual title for the sensor: name it sensor-type, or leave --sensor out",
+        )?;
+    } else if !sensors.is_empty() {
+        push(&mut text, ": they are of ")?;
+        push_ranked(&mut text, sensors)?;
+    }
     Ok(text)
 }
 
@@ -133,7 +147,11 @@ fn check_wanted(alloc: Global, sheet: &Sheet<'_>, ledger: &Ledger) -> Result<(),
         }
     }
     match absent.iter().min() {
-        Some(first) => Err(refused(alloc, Kind::Sensor, None, absent_text(alloc, first))),
+        Some(first) => {
+            let sensors = ranked_sensors(alloc, ledger, &counts)?;
+            let text = absent_text(alloc, first, sheet.columns.sensor, &sensors);
+            Err(refused(alloc, Kind::Sensor, None, text))
+        }
         None => Ok(()),
     }
 }

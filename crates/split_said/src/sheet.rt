@@ -37,6 +37,8 @@ pub struct Sheet<'a> {
     pub unit: Scale,
     /// The zone that was named.
     pub zone: Option<Zone>,
+    /// The reference system, as it was named; empty where none was.
+    pub system: &'a [u8],
     /// The name of the animal where no column has one.
     pub name: &'a [u8],
     pub times: TimesRead<'a>,

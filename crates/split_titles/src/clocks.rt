@@ -1,6 +1,7 @@
 // What titles say of the clock of their times.
 
-use crate::words::{begins_at, is_one_of, word_from};
+use crate::clock_words::{clock_word, is_official};
+use crate::words::{begins_at, behind, is_one_of, start_of, word_from};
 
 // Words for the clock of a place that is not named, in the languages of tables.
 const NAMELESS: [&str; 24] = [
@@ -74,6 +75,9 @@ const ZONES_OF_UTC: [&str; 9] = [
     "GMT-0",
 ];
 
+// Words for the clock of UTC that is not named so.
+const WORDS_OF_UTC: [&str; 3] = ["zulu", "universal", "greenwich"];
+
 // What a title says of a clock.
 #[derive(Clone, Copy, PartialEq, Eq, Debug)]
 pub(crate) enum ClockSaid<'t> {
@@ -103,22 +107,6 @@ fn parts_words(byte: u8) -> bool {
         | b'{'
         | b'}' => true,
         _ => false,
-    }
-}
-
-// The start of a text, of at most this length.
-fn start_of(text: &[u8], length: usize) -> &[u8] {
-    match text.split_at_checked(length) {
-        Some((start, _)) => start,
-        None => text,
-    }
-}
-
-// A text behind a start of this length; empty where it is no longer.
-fn behind(text: &[u8], length: usize) -> &[u8] {
-    match text.split_at_checked(length) {
-        Some((_, rest)) => rest,
-        None => b"",
     }
 }
 
@@ -287,11 +275,13 @@ fn behind_utc(text: &[u8]) -> Option<&[u8]> {
     }
 }
 
-// What the word at the start of a text says, which is not that of UTC.
+// What the word at the start of a text says, which is not the name of UTC.
 fn local_at(text: &[u8]) -> ClockSaid<'_> {
     let word = word_from(text, 0);
     if is_one_of(word, &NAMELESS) || is_one_of(word, &LOCAL_WORDS) {
         ClockSaid::Local(word)
+    } else if is_one_of(word, &WORDS_OF_UTC) {
+        ClockSaid::Utc(word)
     } else {
         ClockSaid::Nothing
     }
@@ -393,9 +383,9 @@ fn tells_zone(word: &[u8]) -> bool {
     is_zone(word) || whole_hours(word).is_some()
 }
 
-// What a title says of the clock of its times: by the first word that says another one than that of UTC, of several by the
+// What a title says of the clock of its times by names and offsets: by the first word that says another one than that of UTC, of several by the
 // first that tells its zone; or else by the first that says that of UTC.
-pub(crate) fn clock_said(title: &[u8]) -> ClockSaid<'_> {
+fn name_said(title: &[u8]) -> ClockSaid<'_> {
     let mut said = ClockSaid::Nothing;
     for place in 0..title.len() {
         match (said, said_at(title, place)) {
@@ -407,6 +397,19 @@ pub(crate) fn clock_said(title: &[u8]) -> ClockSaid<'_> {
         }
     }
     said
+}
+
+// Whether a title says no clock by names and offsets, so that its words may mean something else too.
+pub(crate) fn is_loose(title: &[u8]) -> bool {
+    name_said(title) == ClockSaid::Nothing
+}
+
+// What a title says of the clock of its times: by names and offsets, or else by words that say one of a season or a place.
+pub(crate) fn clock_said(title: &[u8]) -> ClockSaid<'_> {
+    match (name_said(title), clock_word(title)) {
+        (ClockSaid::Nothing, Some(word)) => ClockSaid::Local(word),
+        (said, _) => said,
+    }
 }
 
 // The name of a zone without `Etc/` before it.
@@ -462,7 +465,7 @@ pub(crate) fn is_other_clock(word: &[u8], zone: &[u8]) -> bool {
     }
     match offset_of(word) {
         Some((is_ahead, digits)) => is_other_offset(is_ahead, digits, zone),
-        None => is_of_utc(zone) && !is_one_of(word, &NAMELESS),
+        None => is_of_utc(zone) && !is_one_of(word, &NAMELESS) && !is_official(word),
     }
 }
 

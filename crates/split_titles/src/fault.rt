@@ -85,6 +85,13 @@ pub enum TitleFault<'a> {
         at: usize,
         is_metres: bool,
     },
+    /// The title of a column of coordinates says that they are counted to the west, or to the south. The other one of the two decides
+    /// what a letter says.
+    OtherSide {
+        at: usize,
+        other: usize,
+        role: Role,
+    },
     /// The title of a column of the time says a clock other than that of UTC, and no zone was named.
     LocalTime {
         at: usize,
@@ -132,6 +139,7 @@ impl<'a> TitleFault<'a> {
             | TitleFault::PassedOver { .. }
             | TitleFault::SeparatorLine
             | TitleFault::OtherUnit { .. }
+            | TitleFault::OtherSide { .. }
             | TitleFault::LocalTime { .. }
             | TitleFault::OtherClock { .. }
             | TitleFault::UtcTime { .. } => Some(FaultKind::Columns),

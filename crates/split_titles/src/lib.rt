@@ -2,12 +2,15 @@
 //! is refused for its titles.
 #![tactic(auto)]
 
+mod brackets;
+mod clock_words;
 mod clocks;
 mod columns;
 mod fault;
 mod find;
 mod lookup;
 mod makers;
+mod multiples;
 mod named;
 mod passed_over;
 mod places;
@@ -16,6 +19,7 @@ mod presets;
 mod said;
 mod sentences;
 mod sentences_of_said;
+mod sides;
 mod units;
 mod usual;
 mod words;

@@ -1,12 +1,40 @@
-// What the titles of columns that are read say of units and clocks is what they are read in, or refused.
+// What the titles of columns that are read say of units, sides and clocks is what they are read in, or refused.
 
 use crate::clocks::{ClockSaid, clock_said, is_of_utc, is_other_clock};
 use crate::columns::{Columns, Pair};
 use crate::fault::TitleFault;
-use crate::named::Named;
+use crate::named::{Named, Role};
 use crate::sentences::title_at;
+use crate::sides::side_said;
 use crate::units::unit_said;
 use std::alloc::Allocator;
+
+// Refuses a column of coordinates whose title says another side, beside the other one of the two.
+fn refuse_side<'a>(
+    titles: &[&[u8]],
+    at: usize,
+    other: usize,
+    role: Role,
+) -> Result<(), TitleFault<'a>> {
+    match side_said(title_at(titles, at), title_at(titles, other), role) {
+        Some(_) => Err(TitleFault::OtherSide { at, other, role }),
+        None => Ok(()),
+    }
+}
+
+// Refuses two columns of coordinates of which one says another side.
+fn refuse_sides<'a>(
+    titles: &[&[u8]],
+    pair: Option<Pair>,
+    first: Role,
+    second: Role,
+) -> Result<(), TitleFault<'a>> {
+    let Some(pair) = pair else {
+        return Ok(());
+    };
+    refuse_side(titles, pair.first, pair.second, first)?;
+    refuse_side(titles, pair.second, pair.first, second)
+}
 
 // Refuses a column of coordinates whose title says another unit.
 fn refuse_unit<'a>(titles: &[&[u8]], at: usize, is_metres: bool) -> Result<(), TitleFault<'a>> {
@@ -60,12 +88,14 @@ fn refuse_clocks<'a>(
     Ok(())
 }
 
-// Refuses the first column that is read in another unit, or by another clock, than its title says.
+// Refuses the first column that is read in another unit, to another side, or by another clock, than its title says.
 pub(crate) fn refuse_said<'a, A: Allocator>(
     titles: &[&[u8]],
     named: &Named<'a>,
     columns: &Columns<A>,
 ) -> Result<(), TitleFault<'a>> {
+    refuse_sides(titles, columns.metres, Role::Easting, Role::Northing)?;
+    refuse_sides(titles, columns.degrees, Role::Longitude, Role::Latitude)?;
     refuse_units(titles, columns.metres, true)?;
     refuse_units(titles, columns.degrees, false)?;
     refuse_clocks(titles, &columns.time, named.zone)

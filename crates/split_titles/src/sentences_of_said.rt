@@ -1,7 +1,9 @@
-// The sentences in which a table is refused for what a title says of units and clocks.
+// The sentences in which a table is refused for what a title says of units, sides and clocks.
 
-use crate::clocks::{ClockSaid, clock_said, is_of_offset, is_zone, whole_hours};
+use crate::clocks::{ClockSaid, clock_said, is_loose, is_of_offset, is_zone, whole_hours};
+use crate::named::Role;
 use crate::sentences::{push, push_column, title_at};
+use crate::sides::side_said;
 use crate::units::unit_said;
 use std::alloc::{AllocError, Allocator};
 
@@ -37,6 +39,37 @@ pub(crate) fn push_unit<A: Allocator>(
             ", and longitude and latitude are in degrees: write degrees with decimals, and rename the column",
         )
     }
+}
+
+// What coordinates of a role are called, and to which side they are counted.
+fn counted(role: Role) -> (&'static str, &'static str) {
+    match role {
+        Role::Longitude => ("longitudes", "east"),
+        Role::Latitude => ("latitudes", "north"),
+        Role::Northing => ("northings", "north"),
+        _ => ("eastings", "east"),
+    }
+}
+
+// Appends that a column of coordinates says another side.
+pub(crate) fn push_side<A: Allocator>(
+    text: &mut Vec<u8, A>,
+    titles: &[&[u8]],
+    at: usize,
+    other: usize,
+    role: Role,
+) -> Result<(), AllocError> {
+    let word = side_said(title_at(titles, at), title_at(titles, other), role).unwrap_or(b"");
+    let (coordinates, side) = counted(role);
+    push_says(text, titles, at, word)?;
+    push(text, ", and ")?;
+    push(text, coordinates)?;
+    push(text, " are counted to the ")?;
+    push(text, side)?;
+    push(
+        text,
+        ": turn the signs of its numbers, unless they are counted so already, and rename the column",
+    )
 }
 
 // Appends that its zone is to be named: the one that a word names, or that of its offset of whole hours, or else one as an example,
@@ -75,7 +108,11 @@ pub(crate) fn push_local<A: Allocator>(
     };
     push_says(text, titles, at, word)?;
     push(text, ", and without --tz times are those of UTC")?;
-    push_zone(text, "their", word)
+    push_zone(text, "their", word)?;
+    if is_loose(title_at(titles, at)) {
+        push(text, ", or rename the column")?;
+    }
+    Ok(())
 }
 
 // Appends that a column of the time says another clock than that of a zone.

@@ -1,5 +1,7 @@
 // What titles say of units.
 
+use crate::brackets::lone_word;
+use crate::multiples::multiple_said;
 use crate::words::{first_word, is_one_of, word_from};
 
 // Short names of units of lengths that are not metres, and names of such that metres are no part of.
@@ -12,7 +14,7 @@ const LENGTHS: [&str; 47] = [
 ];
 
 // What metres are called, in the languages of tables.
-const METRES: [&str; 11] = [
+pub(crate) const METRES: [&str; 11] = [
     "metre", "metres", "meter", "meters", "metern", "mètre", "mètres", "metro", "metros", "metri",
     "metra",
 ];
@@ -63,37 +65,18 @@ const ANGLES: [&str; 35] = [
     "ddm",
 ];
 
-// Words that may stand alone between brackets behind the title of a coordinate, and say no unit other than metres and degrees: names
-// of these, of systems, of axes and of what was done to it.
-const KNOWN: [&str; 92] = [
+// What degrees are called, in the languages of tables.
+pub(crate) const DEGREES: [&str; 14] = [
+    "deg", "degs", "degree", "degrees", "degré", "degrés", "grado", "grados", "grau", "graus",
+    "gradi", "decdeg", "ddeg", "dd",
+];
+
+// Words that may stand alone between brackets behind the title of a coordinate, and say no unit other than metres and degrees: beside
+// names of these, those of systems, of axes and of what was done to it.
+const KNOWN: [&str; 67] = [
     "m",
-    "metre",
-    "metres",
-    "meter",
-    "meters",
-    "metern",
-    "mètre",
-    "mètres",
-    "metro",
-    "metros",
-    "metri",
-    "metra",
-    "deg",
-    "degs",
-    "degree",
-    "degrees",
-    "degré",
-    "degrés",
-    "grado",
-    "grados",
-    "grau",
-    "graus",
-    "gradi",
-    "decdeg",
-    "dd",
     "decimal",
     "dec",
-    "ddeg",
     "wgs",
     "utm",
     "etrs",
@@ -160,6 +143,11 @@ const KNOWN: [&str; 92] = [
     "final",
 ];
 
+// Whether a word of the title of a coordinate is known, and says no unit other than metres and degrees.
+pub(crate) fn is_known(word: &[u8]) -> bool {
+    is_one_of(word, &KNOWN) || is_one_of(word, &METRES) || is_one_of(word, &DEGREES)
+}
+
 // Whether a word is the name of metres behind this text.
 fn is_metres_behind(word: &[u8], part: &[u8]) -> bool {
     match word.split_at_checked(part.len()) {
@@ -211,37 +199,21 @@ fn first_power(title: &[u8]) -> Option<&[u8]> {
     None
 }
 
-// What stands between brackets at the end of a title; none where nothing does.
-fn bracketed(title: &[u8]) -> Option<&[u8]> {
-    let inside = match title {
-        [inside @ .., b')' | b']' | b'}'] => inside,
-        _ => return None,
-    };
-    let open = inside
-        .iter()
-        .position(|byte| matches!(*byte, b'(' | b'[' | b'{'))?;
-    inside.get(open.saturating_add(1)..)
-}
-
 // The word that stands alone between brackets at the end of a title, if it is none that is known.
 fn unknown_word(title: &[u8]) -> Option<&[u8]> {
-    let inside = bracketed(title)?;
-    let word = inside.trim_ascii();
-    let is_whole = !word.is_empty() && word_from(word, 0).len() == word.len();
-    let has_digits = word.iter().any(|byte| byte.is_ascii_digit());
-    if is_whole && !has_digits && !is_one_of(word, &KNOWN) {
-        Some(word)
-    } else {
-        None
+    match lone_word(title) {
+        Some(word) if !is_known(word) => Some(word),
+        _ => None,
     }
 }
 
-// The word of a title that says another unit than metres, or than degrees.
+// What a title says of another unit than metres, or than degrees.
 pub(crate) fn unit_said<'t>(title: &'t [u8], is_metres: bool) -> Option<&'t [u8]> {
     let own = if is_metres {
         first_word(title, &LENGTHS).or(first_of_metres(title))
     } else {
         first_word(title, &ANGLES).or(first_power(title))
     };
-    own.or(unknown_word(title))
+    own.or(multiple_said(title, is_metres))
+        .or(unknown_word(title))
 }

@@ -85,6 +85,55 @@ pub(crate) fn word_from(title: &[u8], place: usize) -> &[u8] {
     }
 }
 
+// The start of a text, of at most this length.
+pub(crate) fn start_of(text: &[u8], length: usize) -> &[u8] {
+    match text.split_at_checked(length) {
+        Some((start, _)) => start,
+        None => text,
+    }
+}
+
+// A text behind a start of this length; empty where it is no longer.
+pub(crate) fn behind(text: &[u8], length: usize) -> &[u8] {
+    match text.split_at_checked(length) {
+        Some((_, rest)) => rest,
+        None => b"",
+    }
+}
+
+// The first word of a title that begins at a place or behind it; empty where none does.
+pub(crate) fn next_word(title: &[u8], from: usize) -> &[u8] {
+    for place in from..title.len() {
+        let word = word_from(title, place);
+        if !word.is_empty() {
+            return word;
+        }
+    }
+    b""
+}
+
+// Whether a title has one word alone.
+pub(crate) fn is_one_word(title: &[u8]) -> bool {
+    for place in 0..title.len() {
+        let word = word_from(title, place);
+        if !word.is_empty() {
+            return next_word(title, place.saturating_add(word.len())).is_empty();
+        }
+    }
+    false
+}
+
+// The last word of a title that begins before a place; empty where none does.
+pub(crate) fn word_before(title: &[u8], place: usize) -> &[u8] {
+    for back in 0..place {
+        let word = word_from(title, place.saturating_sub(back.saturating_add(1)));
+        if !word.is_empty() {
+            return word;
+        }
+    }
+    b""
+}
+
 // Whether a word is one of these, in small or great letters.
 pub(crate) fn is_one_of(word: &[u8], words: &[&str]) -> bool {
     words

@@ -1,13 +1,14 @@
 // Which fixes options choose.
 
 use crate::bounds::bound_of;
-use crate::fault::WordFault;
+use crate::fault::{WordFault, refused};
 use crate::values::{full_list_of, refused_value};
 use clap::ArgMatches;
 use split_clock::Clock;
 use split_filters::{Filters, class_name, sensor_name};
 use split_numbers::trillionths;
 use split_pace::{Speed, length_of, speed_of};
+use split_refusal::Kind;
 use std::alloc::Global;
 
 /// Which fixes options choose.
@@ -152,6 +153,21 @@ fn bound_if(
     }
 }
 
+// Refuses a first second that is later than the last.
+fn refuse_reversed(alloc: Global, choices: &Choices<'_>) -> Result<(), WordFault> {
+    match (choices.since, choices.until) {
+        (Some(since), Some(until)) if until < since => {
+            let first = choices.since_words.unwrap_or("");
+            let last = choices.until_words.unwrap_or("");
+            let words = format!(in alloc;
+                "since is '{first}', which is later than until, '{last}': no fix is of both"
+            )?;
+            Err(refused(alloc, Kind::Option, words.as_str()))
+        }
+        _ => Ok(()),
+    }
+}
+
 // Reads the first and the last second that are named, by the clock of this zone.
 pub(crate) fn read_bounds(
     alloc: Global,
@@ -161,7 +177,7 @@ pub(crate) fn read_bounds(
 ) -> Result<(), WordFault> {
     choices.since = bound_if(alloc, choices.since_words, clock, false, zone_name)?;
     choices.until = bound_if(alloc, choices.until_words, clock, true, zone_name)?;
-    Ok(())
+    refuse_reversed(alloc, choices)
 }
 
 // Which fixes options choose.

@@ -115,20 +115,13 @@ pub fn refused_zone_name(alloc: Global, name: &str) -> Refusal {
     }
 }
 
-// Whether a name is none of a zone, but of what a machine has, or of its database.
-fn is_of_machine(name: &str) -> bool {
-    const NAMES: [&str; 3] = ["localtime", "posixrules", "Factory"];
-    let is_one = NAMES.iter().any(|own| name.eq_ignore_ascii_case(own));
-    is_one || name.starts_with("posix/")
-}
-
 // The name of the time zone of times, if it was named.
 pub(crate) fn zone_name_in<'a>(
     alloc: Global,
     value: Option<&'a str>,
 ) -> Result<Option<&'a str>, WordFault> {
     match value {
-        Some(name) if is_of_machine(name) || !is_zone_name(name.as_bytes()) => {
+        Some(name) if !is_zone_name(name.as_bytes()) => {
             Err(WordFault::Refused(refused_zone_name(alloc, name)))
         }
         _ => Ok(value),

@@ -2,7 +2,7 @@
 
 use crate::fault::{WordFault, refused};
 use range_plane::Scale;
-use split_reading::{Zone, zone_of};
+use split_reading::{System, Zone, code_of, system_with, zone_of};
 use split_refusal::{Kind, refused_zone};
 use split_titles::trimmed;
 use std::alloc::{AllocError, Global};
@@ -51,6 +51,36 @@ pub(crate) fn zone_in(alloc: Global, value: Option<&str>) -> Result<Option<Zone>
     match zone_of(text.trim_matches(' ').as_bytes()) {
         Some(zone) => Ok(Some(zone)),
         None => Err(WordFault::Refused(refused_zone(alloc, text.as_bytes()))),
+    }
+}
+
+// Why a reference system is none of coordinates in metres with true areas, if it is known to be none.
+fn fault_of_system(text: &str) -> Option<&'static str> {
+    match system_with(code_of(text.as_bytes())?) {
+        System::Degrees => Some(
+            "has longitude and latitude: --crs is the system of coordinates in metres; longitude and latitude are named by --lon and --lat",
+        ),
+        System::Mercator => Some(
+            "is a projection of Mercator, whose areas are wrong: project coordinates into their zone of UTM first",
+        ),
+        _ => None,
+    }
+}
+
+// The reference system, if it was given.
+pub(crate) fn system_in<'a>(
+    alloc: Global,
+    value: Option<&'a str>,
+) -> Result<Option<&'a str>, WordFault> {
+    let Some(text) = value else {
+        return Ok(None);
+    };
+    match fault_of_system(text) {
+        Some(fault) => {
+            let words = format!(in alloc; "--crs: {text} {fault}")?;
+            Err(refused(alloc, Kind::Option, words.as_str()))
+        }
+        None => Ok(Some(text)),
     }
 }
 

@@ -8,7 +8,7 @@ use crate::given::options_given;
 use crate::preset::texts_of;
 use crate::text::{TextWords, header_in, text_words};
 use crate::times::{forms_in, zone_name_in};
-use crate::values::{folder_of, missing_words, name_of, unit_of, zone_in};
+use crate::values::{folder_of, missing_words, name_of, system_in, unit_of, zone_in};
 use clap::ArgMatches;
 use range_plane::Scale;
 use split_clock::Clock;
@@ -28,6 +28,8 @@ pub struct Words<'a> {
     pub unit: Scale,
     /// The zone of all coordinates.
     pub zone: Option<Zone>,
+    /// Their reference system, as it was named.
+    pub system: Option<&'a str>,
     /// How the text of the export is read.
     pub text: TextWords,
     /// The start of the line of titles.
@@ -94,6 +96,7 @@ fn words_in<'a>(alloc: Global, matches: &ArgMatches<'a>) -> Result<Words<'a>, Wo
         into,
         name: name_of(alloc, matches.get_str("name"))?,
         zone: zone_in(alloc, matches.get_str("zone"))?,
+        system: system_in(alloc, matches.get_str("crs"))?,
         text: text_words(alloc, matches)?,
         header: header_in(alloc, texts.header)?,
         columns: columns_of(alloc, matches, &texts)?,

@@ -27,6 +27,7 @@ fn row(is_used: bool) -> Row {
         sensor: 0,
         told: Told::Fix(ToldFix {
             moment: MOMENT,
+            is_local: false,
             is_twice: false,
             metres: Some((0, 0)),
             degrees: None,

@@ -61,6 +61,7 @@ fn fix(second: u64) -> Row {
                 second,
                 nanosecond: 0,
             },
+            is_local: false,
             is_twice: false,
             metres: Some((1, 2)),
             degrees: None,

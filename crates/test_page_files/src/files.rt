@@ -47,6 +47,7 @@ pub(crate) fn typed(clock: &Clock) -> Words<'_> {
         shift: (0, 0),
         differences: None,
         is_alone: false,
+        is_data: false,
     }
 }
 
@@ -86,5 +87,55 @@ fn tables_and_page_are_those_of_the_package(rt: HostRuntime) {
     assert!(rt;
         sum_of(&files.page).as_slice() == PAGE_SUM.as_bytes(),
         "{PAGE_SUM}"
+    );
+}
+
+// The first track with a fix that is not used.
+const WITH_UNUSED: &str = "animal,second,easting,northing,use\n\
+    a&b,1711929600,500100,5000100,1\n\
+    a&b,1711940000,500100,5000100,0\n\
+    a&b,1711951200,500300,5000100,1\n\
+    a&b,1711972800,500300,5000400,1\n\
+    a&b,1712016000,500150,5000350,1\n";
+
+// The page of tracks without a record.
+fn page_without_record(alloc: Global, first: &str) -> Result<Vec<u8>, PageFault> {
+    let tracks = tracks(alloc, first, SECOND_TRACK)?;
+    let clock = Clock::utc();
+    let given = Given {
+        report: REPORT.as_bytes(),
+        record: None,
+        boundary: Some(BOUNDARY.as_bytes()),
+        tracks: Some(&tracks),
+    };
+    Ok(files_of(alloc, &given, &typed(&clock))?.page)
+}
+
+// Whether a text begins with these words at a place.
+fn begins(text: &[u8], place: usize, words: &str) -> bool {
+    text.get(place..)
+        .is_some_and(|rest| rest.starts_with(words.as_bytes()))
+}
+
+// Whether a page has these words.
+fn has(page: Result<Vec<u8>, PageFault>, words: &str) -> bool {
+    match page {
+        Ok(page) => (0..page.len()).any(|place| begins(&page, place, words)),
+        Err(_fault) => false,
+    }
+}
+
+#[test]
+fn of_tracks_without_a_record_it_is_known_what_is_not_used(rt: HostRuntime) {
+    let alloc = rt.alloc();
+    let words = "Of 8 fixes of the data 1 were left out: 1 not in use, as the data said.";
+    assert!(rt;
+        has(page_without_record(alloc, WITH_UNUSED), words),
+        "{words}"
+    );
+    let words = "How many fixes were left out is not known.";
+    assert!(rt;
+        has(page_without_record(alloc, FIRST_TRACK), words),
+        "{words}"
     );
 }

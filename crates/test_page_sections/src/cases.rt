@@ -322,6 +322,9 @@ pub(crate) const LEFT: &str =
 
 pub(crate) const NOTHING_LEFT: &str = "No fix of the data was left out (1 fix).";
 
+pub(crate) const UNUSED_LEFT: &str =
+    "Of 10 fixes of the data 2 were left out: 2 not in use, as the data said.";
+
 pub(crate) const OPTIONS: &str = " Options of the split: zone 33N, skip-unnamed, na.";
 
 pub(crate) const SUMS: &str =

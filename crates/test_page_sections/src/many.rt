@@ -118,7 +118,7 @@ fn sentence(alloc: Global, report: &Report) -> Result<Vec<u8>, AllocError> {
     let shown = Shown {
         report,
         told: &told,
-        reasons: &[],
+        causes: &[],
         source: Source::Data,
         dated: true,
         clock: &clock,

@@ -4,8 +4,8 @@ use crate::cases::{Case, DECIMETRES, MANY_LEVELS, NAMES, SECONDS, TWO};
 use page_facts::{are_dates, facts_of};
 use page_report::{Report, read_report};
 use page_sections::{
-    Shown, Source, push_animals_table, push_method, push_overlap_sentence, push_overlap_table,
-    push_sentences,
+    Cause, Shown, Source, push_animals_table, push_method, push_overlap_sentence,
+    push_overlap_table, push_sentences,
 };
 use page_tables::Told;
 use split_clock::Clock;
@@ -14,7 +14,11 @@ use std::alloc::{AllocError, Global};
 
 const CASES: [Case; 4] = [NAMES, DECIMETRES, SECONDS, MANY_LEVELS];
 
-const REASONS: [Reason; 3] = [Reason::Outlier, Reason::NoDop, Reason::Speed];
+const CAUSES: [Cause; 3] = [
+    Cause::Made(Reason::Outlier),
+    Cause::Made(Reason::NoDop),
+    Cause::Made(Reason::Speed),
+];
 
 const LEFT: [&[u64]; 2] = [&[1, 0, 3], &[0, 2, 0]];
 
@@ -91,7 +95,7 @@ fn sections_are_those_of_the_makers_in_python(rt: HostRuntime) {
         let shown = Shown {
             report: &report,
             told: &told,
-            reasons: &[],
+            causes: &[],
             source: Source::Data,
             dated: are_dates(&report),
             clock: &clock,
@@ -119,7 +123,7 @@ fn fixes_that_were_left_out_have_columns(rt: HostRuntime) {
     let shown = Shown {
         report: &report,
         told: &told,
-        reasons: &REASONS,
+        causes: &CAUSES,
         source: Source::Export,
         dated: are_dates(&report),
         clock: &clock,

@@ -1,12 +1,12 @@
 // Sentences on what was left out and said, options and checksums, as the makers in Python write them.
 
 use crate::cases::{
-    LEFT, NOTHING_LEFT, OPTIONS, SAID, SAID_OF_FOURTEEN, SUMS, SUMS_OF_DATA, VERIFY, WITHOUT_RANGE,
-    WITHOUT_RANGE_OF_MANY,
+    LEFT, NOTHING_LEFT, OPTIONS, SAID, SAID_OF_FOURTEEN, SUMS, SUMS_OF_DATA, UNUSED_LEFT, VERIFY,
+    WITHOUT_RANGE, WITHOUT_RANGE_OF_MANY,
 };
 use page_record::read_record;
 use page_sections::{
-    Origin, Source, Sums, Totals, Unused, push_left_out, push_options, push_said, push_sums,
+    Cause, Origin, Source, Sums, Totals, Unused, push_left_out, push_options, push_said, push_sums,
     push_verify, push_without_range,
 };
 use split_tracks::Reason;
@@ -75,7 +75,7 @@ fn left_out(
     alloc: Global,
     source: Source,
     records: u64,
-    left: &[(Reason, u64)],
+    left: &[(Cause, u64)],
 ) -> Result<Vec<u8>, AllocError> {
     let mut text = Vec::new(alloc);
     push_left_out(&mut text, source, &Totals { records, left })?;
@@ -85,12 +85,15 @@ fn left_out(
 #[test]
 fn what_was_left_out_is_a_sentence(rt: HostRuntime) {
     let left = [
-        (Reason::Zero, 0),
-        (Reason::Outlier, 3),
-        (Reason::Speed, 1_200),
+        (Cause::Made(Reason::Zero), 0),
+        (Cause::Made(Reason::Outlier), 3),
+        (Cause::Made(Reason::Speed), 1_200),
     ];
     let some = left_out(rt.alloc(), Source::Export, 12_345, &left);
     assert!(rt; is_written(some, LEFT), "{LEFT}");
+    let unused = [(Cause::Use, 2)];
+    let some = left_out(rt.alloc(), Source::Data, 10, &unused);
+    assert!(rt; is_written(some, UNUSED_LEFT), "{UNUSED_LEFT}");
     let none = left_out(rt.alloc(), Source::Data, 1, &[]);
     assert!(rt; is_written(none, NOTHING_LEFT), "{NOTHING_LEFT}");
 }

@@ -29,6 +29,7 @@ fn fix_row(metres: Option<(i64, i64)>, zone: Option<Zone>, is_used: bool) -> Row
         sensor: 0,
         told: Told::Fix(ToldFix {
             moment: SECOND,
+            is_local: false,
             is_twice: false,
             metres,
             degrees: None,

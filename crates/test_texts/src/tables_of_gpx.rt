@@ -2,7 +2,7 @@
 // XML reader of Python's library), and compared with the texts by eye.
 
 use split_encoding::{decode, encoding_of};
-use split_gpx::{GpxFault, declared_encoding, table_of_gpx};
+use split_gpx::{GpxFault, GpxTable, declared_encoding, table_of_gpx};
 use std::alloc::Global;
 use std::process::Abort;
 use std::test::Fail;
@@ -73,7 +73,7 @@ const TABLE_OF_SIGNS: &str = "\"animal\",\"time\",\"lon\",\"lat\"\n\
 fn assert_table(rt: &impl Abort, alloc: Global, text: &str, table: &str) {
     match table_of_gpx(alloc, text.as_bytes(), false) {
         Ok(found) => {
-            let found = str::from_utf8(found.as_slice()).unwrap_or_default();
+            let found = str::from_utf8(found.text.as_slice()).unwrap_or_default();
             assert!(rt; found == table, "{found}");
         }
         Err(fault) => assert!(rt; false, "{fault:?}"),
@@ -88,6 +88,27 @@ fn points_of_tracks_are_records(rt: HostRuntime) {
 #[test]
 fn points_of_tracks_alone_are_read(rt: HostRuntime) {
     assert_table(&rt, rt.alloc(), SEVERAL, TABLE_OF_SEVERAL);
+}
+
+// Texts, and how many of their points are not read: of SEVERAL the waypoint, that of the route, and three outside of segments.
+const OTHER_POINTS: [(&str, usize); 3] = [
+    (POINTS, 0),
+    (SEVERAL, 5),
+    (
+        "<gpx><wpt lat='1' lon='2'/><wpt/><trk><trkseg><trkpt lat='1' lon='2'/></trkseg></trk></gpx>",
+        2,
+    ),
+];
+
+#[test]
+fn points_that_are_not_read_are_counted(rt: HostRuntime) {
+    for (text, count) in OTHER_POINTS {
+        let table = table_of_gpx(rt.alloc(), text.as_bytes(), false);
+        assert!(rt;
+            table.is_ok_and(|table| table.other_points == count),
+            "{text}"
+        );
+    }
 }
 
 #[test]
@@ -118,7 +139,7 @@ fn of_tracks_without_a_name_one_alone_is_an_animal(rt: HostRuntime) {
     let table = table_of_gpx(alloc, one.as_slice(), false);
     let expected = b"\"time\",\"lon\",\"lat\"\n\"\",\"2\",\"1\"\n".as_slice();
     assert!(rt;
-        table.is_ok_and(|table| table.as_slice() == expected),
+        table.is_ok_and(|table| table.text.as_slice() == expected),
         "one"
     );
     let two =
@@ -139,7 +160,7 @@ fn of_tracks_without_a_name_one_alone_is_an_animal(rt: HostRuntime) {
 }
 
 // The table of GPX in the encoding that it names.
-fn table_by_name(alloc: Global, bytes: &[u8]) -> Option<Result<Vec<u8>, GpxFault>> {
+fn table_by_name(alloc: Global, bytes: &[u8]) -> Option<Result<GpxTable, GpxFault>> {
     let name = declared_encoding(bytes).unwrap_or(b"utf-8");
     let text = decode(alloc, bytes, encoding_of(name)?).ok()?;
     Some(table_of_gpx(alloc, text.as_slice(), false))
@@ -157,7 +178,7 @@ fn a_text_is_read_in_the_encoding_that_it_names(rt: HostRuntime) -> Result<(), F
     let table = table_by_name(rt.alloc(), LATIN_1).ok_or("no text")?;
     let expected = "\"animal\",\"time\",\"lon\",\"lat\"\n\"Bär\",\"\",\"2\",\"1\"\n";
     assert!(rt;
-        table.is_ok_and(|table| table.as_slice() == expected.as_bytes()),
+        table.is_ok_and(|table| table.text.as_slice() == expected.as_bytes()),
         "Latin-1"
     );
     let table = table_by_name(rt.alloc(), UTF_16).ok_or("no text")?;

@@ -97,16 +97,21 @@ fn a_clock_tells_the_moment_of_what_has_no_offset(rt: HostRuntime) -> Result<(),
     };
     let later = Some(whole(1_729_989_001));
     for (text, before, expected) in [
-        ("1729992600", later, Ok((1_729_992_600, false))),
-        ("2024-10-27 02:30Z", later, Ok((1_729_996_200, false))),
-        ("2024-07-01 02:30", later, Ok((1_719_793_800, false))),
-        ("2024-10-27 02:30", None, Ok((1_729_989_000, true))),
-        ("2024-10-27 02:30", later, Ok((1_729_992_600, true))),
+        ("1729992600", later, Ok((1_729_992_600, false, false))),
+        (
+            "2024-10-27 02:30Z",
+            later,
+            Ok((1_729_996_200, false, false)),
+        ),
+        ("2024-07-01 02:30", later, Ok((1_719_793_800, true, false))),
+        ("2024-10-27 02:30", None, Ok((1_729_989_000, true, true))),
+        ("2024-10-27 02:30", later, Ok((1_729_992_600, true, true))),
         ("2024-03-31 02:30", None, Err(NoMoment::PassedOver)),
         ("1970-01-01 00:30", None, Err(NoMoment::Before1970)),
     ] {
-        let expected = expected.map(|(second, is_twice)| ClockMoment {
+        let expected = expected.map(|(second, is_local, is_twice)| ClockMoment {
             moment: whole(second),
+            is_local,
             is_twice,
         });
         assert!(&rt; moment_in(text, &clock, before) == Some(expected), "{text}");

@@ -21,6 +21,7 @@ fn expect(
 ) {
     let expected = expected.map(|(second, is_twice)| ClockMoment {
         moment: half(second),
+        is_local: true,
         is_twice,
     });
     let found = moment_by(moments, 500_000_000, before);

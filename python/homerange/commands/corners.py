@@ -18,7 +18,7 @@ from typing import NoReturn
 
 from ..errors import HomeRangeError, one_line
 from ..report import kept_places
-from .options import Options, program_of_command
+from .options import Options, program_of_command, text_of_fault
 
 COLUMNS = ("animal", "second", "easting", "northing")
 Fix = tuple[str, int, int, int]
@@ -90,5 +90,9 @@ def main(name: str = "homerange-corners") -> None:
         sys.stdout.reconfigure(errors="surrogateescape")
     try:
         print(*corners(program_of_command(), options.level, options.unit, options.file), sep="\n")
-    except HomeRangeError as fault:
-        sys.exit(f"{name}: {fault}")
+    except (HomeRangeError, OSError) as fault:
+        sys.exit(f"{name}: {text_of_fault(fault)}")
+
+
+if __name__ == "__main__":
+    main()

@@ -17,10 +17,10 @@ import argparse
 import sys
 from pathlib import Path
 
-from ..errors import HomeRangeError, OptionError, one_line
+from ..errors import HomeRangeError, OptionError
 from ..program import program_of
 from ..write.evidence import Wish, write_evidence, write_herd_evidence
-from .options import Options, program_of_command, show_all
+from .options import Options, program_of_command, show_all, text_of_fault
 
 
 def read_options(name: str) -> argparse.Namespace:
@@ -51,5 +51,8 @@ def main(name: str = "homerange-evidence") -> None:
         print(f"{name}: {fault}", file=sys.stderr)
         sys.exit(OptionError.status if isinstance(fault, OptionError) else 1)
     except OSError as fault:
-        sys.exit(f"{name}: {one_line(str(fault.filename))}: {fault.strerror}")
+        sys.exit(f"{name}: {text_of_fault(fault)}")
 
+
+if __name__ == "__main__":
+    main()

@@ -28,11 +28,11 @@ from pathlib import Path
 from typing import Callable, Iterator, Sequence
 
 from ..bar import progress_of
-from ..errors import HomeRangeError, ReportError, one_line
+from ..errors import HomeRangeError, ProgramError, ReportError, check_folder, one_line
 from ..program import CLONE, PACKAGE, checksum_of
 from ..record import difference_from_record, record_in
 from ..report import TEXT, Animal, Lines
-from .options import Options, program_of_command
+from .options import Options, program_of_command, text_of_fault
 
 # The scripts of a plan and of a run: those of the clone, which the wheel carries.
 SCRIPTS = PACKAGE / "herd" if CLONE is None else CLONE / "tools" / "herd"
@@ -173,6 +173,7 @@ class Herd:
 
 def merge(out: Path, name: str) -> None:
     """Writes the report of a herd, or none."""
+    check_folder(out)
     report, part = out / "report.txt", out / "report.part"
     try:
         report.unlink(missing_ok=True)
@@ -188,7 +189,10 @@ def merge(out: Path, name: str) -> None:
 
 def call(script: str, words: Sequence[str], program: str) -> int:
     """The status of a script, which says itself what is wrong."""
-    return subprocess.run([SCRIPTS / script, *words], env={**os.environ, "HOMERANGE": program}).returncode
+    try:
+        return subprocess.run([SCRIPTS / script, *words], env={**os.environ, "HOMERANGE": program}).returncode
+    except OSError as fault:
+        raise ProgramError(one_line(f"{SCRIPTS / script} does not run: {fault.strerror}: install the package again")) from fault
 
 
 def run(out: str, program: str) -> bool:
@@ -245,5 +249,9 @@ def main(name: str = "homerange-herd") -> None:
             sys.exit(planned or 1)
         if options.what == "run":
             merge(Path(folders_of(options.words)[1]), name)
-    except HomeRangeError as fault:
-        sys.exit(f"{name}: {fault}")
+    except (HomeRangeError, OSError) as fault:
+        sys.exit(f"{name}: {text_of_fault(fault)}")
+
+
+if __name__ == "__main__":
+    main()

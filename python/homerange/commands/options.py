@@ -40,6 +40,13 @@ def show_all(stream: TextIO) -> None:
         stream.reconfigure(errors="backslashreplace")
 
 
+def text_of_fault(fault: Exception) -> str:
+    """What is said of a fault, in one line: of one of the system's the file, and what is wrong with it."""
+    if isinstance(fault, OSError) and fault.filename is not None:
+        return one_line(f"{fault.filename}: {fault.strerror}")
+    return one_line(str(fault))
+
+
 def program_of_command() -> str:
     """The path of the program homerange."""
     return _path_by(find_program, "homerange")

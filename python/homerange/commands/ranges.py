@@ -19,13 +19,14 @@ from pathlib import Path
 
 from ..about import TYPED, read_about
 from ..bar import Log
-from ..errors import FrameError, HomeRangeError, OptionError, one_line
+from ..errors import FrameError, HomeRangeError, OptionError, check_no_pipe, one_line
 from ..program import program_of
 from ..read.call import split_table
-from ..units import UNITS, zone_of_time
+from ..units import UNITS
 from ..write.evidence import ABOUT, Wish, make_report, new_folder
-from .options import Options, program_of_command, show_all, split_program_of_command
+from .options import Options, program_of_command, show_all, split_program_of_command, text_of_fault
 from .tables import add_page_options, check_libraries, words_of, write_all
+from .words import check_clock, check_levels
 
 OWN = {"export", "into", "percent", "over", "clock", *TYPED}  # options that are not those of the split
 OPTIONS = {
@@ -86,10 +87,12 @@ def read_options(name: str) -> argparse.Namespace:
 def check_call(options: argparse.Namespace) -> None:
     """Refuses files that cannot be read, and a machine without what is needed."""
     check_libraries()
-    zone_of_time(options.clock or "UTC")
-    for path in (options.export, options.over):
-        if path is not None and not os.access(path, os.R_OK):
+    check_clock(options.clock or "UTC", "clock")
+    check_levels(options.percent)
+    for path in [options.export, *([] if options.over is None else [options.over])]:
+        if not os.access(path, os.R_OK):
             raise HomeRangeError(f"{one_line(str(path))} cannot be read")
+        check_no_pipe(path)
 
 
 def split_words(options: argparse.Namespace) -> list[str]:
@@ -139,4 +142,8 @@ def main(name: str = "homerange-ranges") -> None:
         print(f"{name}: {fault}", file=sys.stderr)
         sys.exit(status_of(fault))
     except (OSError, ValueError) as fault:
-        sys.exit(f"{name}: {one_line(str(fault))}")
+        sys.exit(f"{name}: {text_of_fault(fault)}")
+
+
+if __name__ == "__main__":
+    main()

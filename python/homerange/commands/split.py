@@ -19,3 +19,7 @@ def main() -> None:
         sys.exit(f"{NAME}: {fault}")
     except OSError as fault:
         sys.exit(f"{NAME}: {program} does not run: {fault.strerror}")
+
+
+if __name__ == "__main__":
+    main()

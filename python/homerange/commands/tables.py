@@ -25,14 +25,17 @@ from typing import TYPE_CHECKING
 
 from ..about import TYPED, About, Words
 from ..bar import Log
-from ..errors import HomeRangeError, refuse
+from ..errors import HomeRangeError, check_folder, refuse
 from ..program import find_program, program_of
 from ..record import record_in
 from ..units import zone_of_time
-from ..write.evidence import TRACKS, Wish, about_of, used_tracks
-from ..write.results import BOUNDARY, LAYERS, PAGE, TABLES, read_ranges, write_results
+from ..write.boundary import BOUNDARY
+from ..write.evidence import REPORT, TRACKS, Wish, about_of, used_tracks
+from ..write.page import PAGE, TABLES
+from ..write.results import LAYERS, read_ranges, write_results
 from ..zones import text_of_zone, zone_of
-from .options import Options
+from .options import Options, text_of_fault
+from .words import boundary_in, check_clock, check_levels_of, check_zone, said_of_boundary
 
 if TYPE_CHECKING:
     from ..ranges.home import HomeRanges
@@ -75,15 +78,15 @@ def write_pictures(ranges: HomeRanges, folder: Path) -> None:
 def write_all(folder: Path, over: Path | None, about: About, log: Log, program: str | None = None,
               report: Report | None = None) -> None:
     """Writes all that is made of a report, which may be known, into its folder; the page has what the record of the run says."""
-    from ..write.page import rings_given, write_rings
+    from ..write.boundary import rings_given, write_rings
 
     log.at("reading the report")
     ranges = read_ranges(folder, about, program, report)
     if ranges.crs is None:
         log.say("no reference system is known: that of ranges.gpkg is an undefined one of metres")
-    rings = rings_given(ranges, boundary_in(over))
-    if rings is not None:
-        write_rings(rings, folder / BOUNDARY)
+    check_levels_of(REPORT, ranges.levels)
+    with said_of_boundary(over):
+        write_rings(rings_given(ranges, boundary_in(over, ranges.crs)), folder)
     log.at("writing tables, layers and page")
     for line in write_results(folder, ranges, about):
         log.say(line)
@@ -93,6 +96,7 @@ def write_all(folder: Path, over: Path | None, about: About, log: Log, program: 
 
 def check_links(folder: Path) -> None:
     """Refuses a folder in which something that is written over is a link: the folder may be a stranger's."""
+    check_folder(folder)
     links = [name for name in (*TABLES, LAYERS, PAGE, BOUNDARY, *PICTURES) if (folder / name).is_symlink()]
     if links:
         refuse(f"{folder / links[0]} is a link to elsewhere: remove it", "text")
@@ -105,15 +109,6 @@ def words_of(options: argparse.Namespace, clock: str) -> Words:
                  boundary=options.over and options.over.stem, clock=clock)
 
 
-def boundary_in(path: Path | None) -> object:
-    """The boundary in a file, if one was named."""
-    if path is None:
-        return None
-    import geopandas
-
-    return geopandas.read_file(path)
-
-
 def main(name: str = "homerange-tables") -> None:
     parser = Options(name, __doc__)
     parser.add_argument("folder", type=Path, metavar="FOLDER", help="the folder with report.txt and tracks")
@@ -124,13 +119,21 @@ def main(name: str = "homerange-tables") -> None:
     try:
         check_libraries()
         check_links(options.folder)
-        words = words_of(options, options.tz)._replace(crs=options.zone and text_of_zone(zone_of(options.zone)))
+        check_clock(options.tz, "tz")
+        zone, record = options.zone and zone_of(options.zone), record_in(options.folder / TRACKS)
+        if zone:
+            check_zone(zone, record)
+        words = words_of(options, options.tz)._replace(crs=zone and text_of_zone(zone))
         program = program_of(find_program())
         files = [*used_tracks(options.folder)]
         wish = Wish("100", "m", program)
-        write_all(options.folder, options.over, about_of(wish, files, "m", record_in(options.folder / TRACKS), words), log)
+        write_all(options.folder, options.over, about_of(wish, files, "m", record, words), log)
     except (HomeRangeError, OSError, ValueError) as fault:
-        log.say(str(fault))
+        log.say(text_of_fault(fault))
         sys.exit(1)
     finally:
         log.clear()
+
+
+if __name__ == "__main__":
+    main()

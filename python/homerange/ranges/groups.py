@@ -3,25 +3,35 @@ each fix or a function says."""
 
 from __future__ import annotations
 
+import os
+import re
+from collections import Counter
 from dataclasses import replace
 from datetime import timezone
+from pathlib import Path
 from typing import Any, Callable, NamedTuple, Sequence
 
 import numpy
 import pandas
 
-from ..errors import BYTES, UNPRINTABLE, one_line, refuse
+from ..errors import BYTES, UNPRINTABLE, FrameError, fault_of_text, one_line, refuse
+from ..program import find_split_program
+from ..read.call import split_table
 from ..read.cells import cells_of, is_time, odd_row, row_named
-from ..read.changes import with_named_levels
-from ..read.fixes import Fixes, reading_of
+from ..read.changes import are_alike, are_rows_of_table, has_labels, with_named_levels
+from ..read.fixes import Fixes, is_known, reading_of
 from ..read.reading import OWN, SINCE_1970, ReadTable
-from ..read.refusals import UNREAD
+from ..read.refusals import HELP_DIGITS, LOST_DIGITS, UNREAD
+from ..read.text import quoted
 from .outer import Track
 from .tracks import Tracks
 
 # Seasons are named by their months, since those of north and south have other names.
 SEASONS = ("Dec-Feb", "Mar-May", "Jun-Aug", "Sep-Nov")
 REMEDY = "leave fixes without a group out before"
+LABELS = "groups.csv"  # the table of groups as names, of which the program asks whether some are one
+ALIKE = re.compile("animals ('.* alone: are they one[?])")
+NONE = re.compile("animal '(.*)' has [0-9]+ records: are they of no animal[?]")
 
 
 class Group(NamedTuple):
@@ -54,8 +64,8 @@ PERIODS: dict[str, Callable[[int, int], str]] = {"year": year_of, "month": month
 def check_by(by: Any, is_file: bool = False) -> None:
     """Refuses what says no groups, before a table is looked at, and values for the records of a file."""
     if is_file and not isinstance(by, str) and not callable(by):
-        refuse("by goes by rows, and fixes of a file stand in another order: read it before by read_fixes, and take a value for each "
-               "of the fixes")
+        refuse("by goes by rows, and fixes of a file stand in another order: read the file before, as by pandas.read_csv, and hand in "
+               "the data frame, with a value for each of its rows")
     is_list = pandas.api.types.is_list_like(by) and hasattr(by, "__len__")
     if not isinstance(by, str) and not callable(by) and (not is_list or isinstance(by, (dict, set, frozenset, pandas.DataFrame, *BYTES))):
         refuse(f"by={by!r} is none of {', '.join(map(repr, PERIODS))}, no column of the fixes, no value for each of them, and no "
@@ -68,7 +78,7 @@ def is_period(by: Any) -> bool:
 
 
 def labels_of(table: ReadTable, by: Any) -> list[str]:
-    """The group of each fix. Values that were given beside a frame go by its rows."""
+    """The group of each fix. Values that were given beside a frame, or beside fixes that were read before, go by its rows."""
     fixes, labels = table.fixes, table.fixes.index
     if is_period(by):
         if by in with_named_levels(fixes if table.frame is None else table.frame):
@@ -76,9 +86,11 @@ def labels_of(table: ReadTable, by: Any) -> list[str]:
         return periods(fixes, by)
     if isinstance(by, str):
         return given(column_named(table, by), labels)
-    if callable(by) or table.frame is None or table.rows is None:
-        return given(values_for(by(fixes) if callable(by) else by, fixes), labels)
-    return given(values_for(by, table.frame).iloc[table.rows], labels)
+    if callable(by):
+        return given(values_of_function(by(fixes), fixes), labels)
+    frame = fixes if table.frame is None else table.frame
+    values = values_of_fixes(by, frame) if isinstance(frame, Fixes) and is_known(frame) else values_for(by, frame)
+    return given(values if table.rows is None else values.iloc[table.rows], labels)
 
 
 def column_named(table: ReadTable, by: str) -> pandas.Series:
@@ -100,6 +112,44 @@ def column_named(table: ReadTable, by: str) -> pandas.Series:
     return rows[by]
 
 
+def may_be_by_place(values: pandas.Series, frame: pandas.DataFrame) -> bool:
+    """Whether values that are counted from 0 on say something else by their labels than by their places, so that nobody knows which is meant."""
+    are_counted = values.index.equals(pandas.RangeIndex(len(frame))) and not frame.index.equals(values.index)
+    return are_counted and frame.index.isin(values.index).all() and not are_alike(values.reindex(frame.index), values).all()
+
+
+def is_column_of(frame: pandas.DataFrame, values: pandas.Series) -> bool:
+    """Whether a column of a frame has these values."""
+    return any(are_alike(values, frame.iloc[:, at]).all() for at in range(len(frame.columns)))
+
+
+def values_of_function(values: Any, fixes: pandas.DataFrame) -> pandas.Series:
+    """A value for each fix, which a function of the fixes gave."""
+    if isinstance(values, pandas.Series) and may_be_by_place(values, fixes):
+        refuse("by: the function's values are a Series of another index than that of the fixes: give them that, as by pandas.Series(values, "
+               "index=fixes.index), or an array, as by values.to_numpy()")
+    return values_for(values, fixes)
+
+
+def values_of_fixes(values: Any, fixes: Fixes) -> pandas.Series:
+    """A value for each of fixes that were read before, where it is known of which each is: of a Series with their own index, or by
+    the labels of their table; of such as a column of them has; and where the fixes are the rows of their table in its order."""
+    reading, is_series = reading_of(fixes), isinstance(values, pandas.Series)
+    if is_series and values.index.is_(fixes.index):
+        return values
+    if is_series and values.index.is_unique and has_labels(fixes, reading) and fixes.index.isin(values.index).all():
+        by_label = values.reindex(fixes.index)
+        if not may_be_by_place(values, fixes) or is_column_of(fixes, by_label):
+            return by_label
+    if not is_series or values.index.equals(fixes.index) and values.index.names == fixes.index.names:
+        found = values_for(values.array if is_series else values, fixes)
+        if are_rows_of_table(fixes, reading) or is_column_of(fixes, found):
+            return found
+    return refuse("by: it is not known which of the fixes each value is of, since these may stand in another order than the rows that were "
+                  "read, or be fewer: make the values a column of that table before read_fixes, or, if they were made of these fixes, a "
+                  "column of these, as by fixes.assign(group=..), and name it, as by by='group'")
+
+
 def values_for(values: Any, frame: pandas.DataFrame) -> pandas.Series:
     """A value for each row of a frame, in their order: those of a Series go by its index."""
     if isinstance(values, pandas.Series):
@@ -110,10 +160,30 @@ def values_for(values: Any, frame: pandas.DataFrame) -> pandas.Series:
         refuse("by is a table, and a value for each row is wanted: take one column, or join several, as by frame['a'].astype(str) + ' ' + "
                "frame['b'].astype(str)")
     if count != len(frame):
+        refuse_titles(values, frame)
+        refuse_lists(values, frame)
         refuse(f"by is {repr(values) if count is None else f'{count} values'} for {len(frame)} rows")
     if not isinstance(values, (list, tuple)):
         return pandas.Series(values)
     return pandas.Series(pandas.array(pandas.Series(values, dtype=object).to_numpy()))  # tuples in it are values too
+
+
+def refuse_lists(values: Any, frame: pandas.DataFrame) -> None:
+    """Refuses a list of a title, and one of columns."""
+    several = [*values] if isinstance(values, (list, tuple)) else []
+    if len(several) == 1 and isinstance(several[0], str) and several[0] in frame.columns:
+        refuse(f"by is a list of 1 text: write by={several[0]!r}")
+    if several and all(pandas.api.types.is_list_like(own) and hasattr(own, "__len__") and len(own) == len(frame) for own in several):
+        helps = "take it, as by by[0]" if len(several) == 1 else "join them, as by by[0].astype(str) + ' ' + by[1].astype(str)"
+        refuse(f"by is a list of {len(several)} column{'s' * (len(several) > 1)}, and one is wanted: {helps}")
+
+
+def refuse_titles(values: Any, frame: pandas.DataFrame) -> None:
+    """Refuses titles of several columns."""
+    titles = [*values] if isinstance(values, (list, tuple)) else []
+    if len(titles) > 1 and all(isinstance(title, str) and title in frame.columns for title in titles):
+        texts = " + ' ' + ".join(f"fixes[{title!r}].astype(str)" for title in titles)
+        refuse(f"by names {len(titles)} columns: join them, as by {texts}")
 
 
 def aligned(series: pandas.Series, frame: pandas.DataFrame) -> pandas.Series:
@@ -134,13 +204,26 @@ def given(values: pandas.Series, labels: pandas.Index) -> list[str]:
     cells = moments_by_clock(values) or cells_of(values.astype(str).where(values.notna(), "") if is_period else values)
     refuse_classes(values, labels)
     has_parts = pandas.api.types.is_float_dtype(values.dtype)
-    odd = next((at for at, cell in enumerate(cells)
-                if not cell or UNPRINTABLE.search(cell) or has_parts and not cell.lstrip("-").isdecimal()), None)
+    odd = next(((at, fault) for at, fault in enumerate(why_no_group(cell, has_parts) for cell in cells) if fault is not None), None)
     if odd is not None:
-        what = "a number that is not whole" if has_parts else "with a control character"
-        text = f"a group that is {cells[odd]!r}, {what}: make it text" if cells[odd] else f"no group; {REMEDY}"
-        refuse(f"{row_named(labels, odd)}: by has {text}", "option", odd + 1)
+        at, fault = odd
+        refuse(f"{row_named(labels, at)}: by has {fault}", "option", at + 1)
     return cells
+
+
+def why_no_group(cell: str, has_parts: bool) -> str | None:
+    """Why a cell is no group, of numbers of floating point if it has parts, and what helps; None where it is one."""
+    if not cell:
+        return f"no group; {REMEDY}"
+    if UNPRINTABLE.search(cell):
+        return f"a group that is {cell!r}, with a control character: make it text"
+    if (fault := fault_of_text(cell)) is not None:
+        return f"a group that is {cell!r}, which {fault}: mend it"
+    if not has_parts or cell.lstrip("-").isdecimal():
+        return None
+    if "e+" in cell:
+        return f"a group that is '{cell}', {LOST_DIGITS}: {HELP_DIGITS}"
+    return f"a group that is '{cell}', a number that is not whole: make it text"
 
 
 def moments_by_clock(values: pandas.Series) -> list[str] | None:
@@ -168,7 +251,8 @@ def why_no_calendar(fixes: Fixes) -> str:
     """Why seconds have none, and what helps."""
     are_dates = fixes["second"].between(*SINCE_1970).to_numpy()
     if are_dates.all() or not are_dates.any():
-        return "seconds have no calendar: read a table with a column of date-times in place of second"
+        return ("seconds have no calendar, since none is of the years 1973 to 2262: read a table with date-times of these, or name groups "
+                "by a column of text")
     return (f"{row_named(fixes.index, int((~are_dates).argmax()))} is not of the years 1973 to 2262, so that the seconds of no row have a "
             "calendar: leave it out, as by since, or name groups by a column of text")
 
@@ -183,8 +267,24 @@ def periods(fixes: Fixes, by: str) -> list[str]:
     return [names[place] for place in at.tolist()]
 
 
-def group_tracks(tracks: Tracks, labels: Sequence[str]) -> tuple[Tracks, dict[str, Group]]:
-    """The tracks of each group, in the order of animals and of times, by names that say both; and what these names mean."""
+def questions_of(labels: Sequence[str], folder: Path, program: str | os.PathLike[str] | None) -> list[str]:
+    """What the program asks of groups that may be one, or none, as it does of animals by their names: it reads a table with two
+    fixes of each. What it refuses of names, but for numbers that have lost digits, is none of groups."""
+    own = Counter(labels)
+    lines = ["animal,easting,northing", *(f"{cell},0,{place}" for cell in quoted([*own]) for place in (0, 1)), ""]
+    (folder / LABELS).write_bytes("\n".join(lines).encode())
+    try:
+        said = split_table(LABELS, "groups", [], find_split_program(program), str(folder))
+    except FrameError as fault:
+        what = str(fault).replace("the name of animal ", "group ").replace("animals ", "groups ", 1).rsplit(": ", 1)[0]
+        return refuse(f"by: {what}: {HELP_DIGITS}", "name") if LOST_DIGITS in what else [f"groups are not compared: {what}"]
+    none = {name[1]: f"group '{name[1]}' has {own[name[1]]} fixes: are they of no group?" for name in map(NONE.fullmatch, said) if name}
+    return [*(f"groups {several[1]}" for several in map(ALIKE.fullmatch, said) if several), *none.values()]
+
+
+def group_tracks(tracks: Tracks, labels: Sequence[str], questions: Sequence[str]) -> tuple[Tracks, dict[str, Group]]:
+    """The tracks of each group, in the order of animals and of times, by names that say both; and what these names mean. What is
+    asked of groups is said of the tracks."""
     parts: dict[str, Track] = {}
     known: dict[str, Group] = {}
     own, end = numpy.array(labels, dtype=object), 0
@@ -197,4 +297,4 @@ def group_tracks(tracks: Tracks, labels: Sequence[str]) -> tuple[Tracks, dict[st
                 refuse(f"by: {animal!r} and {known[name].animal!r} both have a range named {name!r}: rename one", "name")
             parts[name], known[name] = track[codes == code], Group(animal, group)
     said = f"ranges are by group: {len(parts)} of {len(tracks.by_name)} animals"
-    return replace(tracks, by_name=parts, left_out={}, notes=[*tracks.notes, said], record=None), known
+    return replace(tracks, by_name=parts, left_out={}, notes=[*tracks.notes, *questions, said], record=None), known

@@ -8,22 +8,24 @@ import tempfile
 from collections import Counter
 from functools import cached_property
 from pathlib import Path
-from typing import TYPE_CHECKING, Any, Callable, Iterable, Mapping, Sequence
+from typing import TYPE_CHECKING, Any, Callable, Iterable, Mapping, NoReturn, Sequence
 
 import numpy
 import pandas
 
+from ..arguments import says_ours
 from ..bar import progress_of
 from ..errors import BYTES, ReportError, check_file, path_of, refuse, truth_of
 from ..program import Program, checksum_of, find_program, program_of
 from ..read.fixes import Fixes, clock_of, is_of_fixes, reading_of
 from ..read.reading import ReadTable, has_calendar, read_again, read_table, tell, times_of
 from ..read.systems import crs_named
+from ..read.words import check_names
 from ..record import Record, difference_from_record, read_record
 from ..report import Corners, Percent, Report, Table, doubled_area, read as read_lines
 from ..units import UNITS, zone_of_time, zone_text
 from ..zones import text_of_crs
-from .groups import Group, check_by, group_tracks, is_period, labels_of
+from .groups import Group, check_by, group_tracks, is_period, labels_of, questions_of
 from .growth import share
 from .outer import counts_within, polygon_kept
 from .overview import Facts, Row, facts_of, reasons_of, rows_of
@@ -217,10 +219,12 @@ class HomeRanges:
             "n": numpy.concatenate([numpy.arange(1, count + 1) for count in counts]),
             **(when if self._has_calendar else {"second": seconds, **when}), "corners": corners, "hectares": areas / UNITS[self.unit].hectare}))
 
+    @says_ours
     def overlap(self, share: bool = False, level: int = 100) -> pandas.DataFrame:
         """How many of the fixes of the row's animal lie in the polygon of the column's, its edges included; with
         ``share`` which share of its fixes, 0 to 1. At 100 per cent these are the program's counts, and all fixes of an
-        animal lie in its own polygon. For a lower level the package counts all fixes of the row's animal in the polygon of
+        animal lie in its own polygon, whatever levels the ranges were made at; the columns are named by the level, as
+        ``in_range_of_100``. For a lower level the package counts all fixes of the row's animal in the polygon of
         that level of the column's, by whole numbers; that needs the fixes."""
         is_share = truth_of(share, "share")
         fixes = {name: table.fixes for name, table in self._report.tables.items()}
@@ -230,9 +234,10 @@ class HomeRanges:
             counts = self._overlaps_at(level)
         matrix = pandas.DataFrame(
             [[counts[name, other] for other in fixes] for name in fixes],
-            index=pandas.Index(fixes, name="fixes_of"), columns=pandas.Index(fixes, name="in_range_of"))
+            index=pandas.Index(fixes, name="fixes_of"), columns=pandas.Index(fixes, name=f"in_range_of_{whole_number(level)}"))
         return matrix.div(pandas.Series(fixes), axis="index") if is_share else matrix
 
+    @says_ours
     def corners(self, level: int = 100) -> dict[str, list[tuple[float, float]]]:
         """The corners of each animal's polygon at a level, easting and northing in metres, counterclockwise from the
         westernmost, the first not repeated. For a level below 100 the package finds them, by whole numbers, among the fixes
@@ -260,7 +265,8 @@ class HomeRanges:
         """A level of these ranges."""
         found = whole_number(level)
         if found not in {100, *self.levels}:
-            refuse(f"level {level!r} is none of these ranges ({', '.join(map(str, self.levels))})")
+            known = ", ".join(map(str, sorted({100, *self.levels})))
+            refuse(f"level {level!r} is none of these ranges ({known}){remedy([level], 'levels')}")
         return int(found)
 
     def _kept_corners(self, level: int) -> dict[str, Corners]:
@@ -282,10 +288,10 @@ class HomeRanges:
     def _table(self, animal: str) -> Table:
         """What the report has of an animal."""
         if not isinstance(animal, str) or animal not in self._report.tables:
-            names = [*map(repr, self._report.tables)]
-            refuse(f"there is no animal {animal!r}: there are {', '.join(names[:5])}{', ..' if len(names) > 5 else ''}")
+            refuse_animal(animal, self._report.tables)
         return self._report.tables[animal]
 
+    @says_ours
     def hectares(self, animal: str, level: int = 100) -> float:
         """The area of an animal's polygon at a level."""
         return self._hectares(self._percent(animal, self._level(level)).area2)
@@ -300,6 +306,7 @@ class HomeRanges:
         """Whether the fixes are known."""
         return self._tracks is not None
 
+    @says_ours
     def fixes(self, animal: str) -> NDArray[numpy.float64] | None:
         """The fixes of an animal in the order of time, an array of eastings and northings in metres; None where they
         are not known."""
@@ -309,6 +316,7 @@ class HomeRanges:
         places = self._tracks.by_name[animal][:, 1:]
         return numpy.asarray(places / UNITS[self.unit].per_metre - self.shift, dtype="float64")
 
+    @says_ours
     def polygons(self, levels: int | Iterable[int] = 100) -> geopandas.GeoDataFrame:
         """The polygons at one level, or at several below each other, as a GeoDataFrame in metres: ``animal``, ``level``,
         ``fixes``, ``kept``, ``corners``, ``hectares`` and ``geometry``, which of one corner is a point and of two a line.
@@ -343,6 +351,12 @@ class HomeRanges:
         tell(write_folder(self, folder, page))
 
 
+def refuse_animal(animal: Any, known: Iterable[str]) -> NoReturn:
+    """Refuses an animal that there is not, with those that there are."""
+    names = [*map(repr, known)]
+    refuse(f"there is no animal {animal!r}: there are {', '.join(names[:5])}{', ..' if len(names) > 5 else ''}")
+
+
 def whole_number(value: Any) -> int | None:
     """A value as a whole number, None where it is none."""
     try:
@@ -352,28 +366,39 @@ def whole_number(value: Any) -> int | None:
 
 
 def whole_numbers(values: Any, least: int, most: int, what: str) -> list[int]:
-    """One whole number, or several, within bounds; all else is refused."""
+    """One whole number, or several, within bounds, of an argument; all else is refused."""
     several = isinstance(values, Iterable) and not isinstance(values, (str, *BYTES)) and getattr(values, "ndim", 1) > 0
     given = list(values) if several else [values]
     found = [number for number in map(whole_number, given) if number is not None and least <= number <= most]
     if not given or len(found) < len(given):
-        refuse(f"{what}={given if several else values!r} are not {what} from {least} to {most}{remedy(given, what)}")
+        names = f"{what.removesuffix('s')}s"
+        refuse(f"{what}={given if several else values!r} are not {names} from {least} to {most}{remedy(given, names)}")
     return found
 
 
 def remedy(given: Sequence[Any], what: str) -> str:
     """What to write for a share of 1, or for a number in quotes."""
-    odd = next((value for value in given if isinstance(value, str) or isinstance(value, float) and 0 < value < 1), None)
+    odd = next((value for value in given if isinstance(value, str) or isinstance(value, float) and not value.is_integer()), None)
     if isinstance(odd, str):
-        return f": {odd!r} is a text, so write {odd} without quotes" if odd.strip().isdecimal() else ""
-    return f": {odd}: {what} are per cent, {round(100 * odd, 6):g}" if odd is not None else ""
+        plain = odd.replace("%", "").strip()
+        text = plain if plain.isdecimal() else f"[{plain}]"
+        return f": {odd!r} is a text, so write {text} without quotes" if plain.replace(",", "").replace(" ", "").isdecimal() else ""
+    if odd is None or not math.isfinite(odd):
+        return ""
+    return f": {odd}: {what} are per cent, {round(100 * odd, 6):g}" if 0 < odd < 1 else f": {odd} is not whole"
 
 
-def levels_of(levels: Any) -> list[int]:
-    """The levels of percent polygons."""
-    found = whole_numbers(levels, 1, 100, "levels")
+def jobs_of(jobs: Any) -> int:
+    """How many processors are to be taken."""
+    found = whole_number(jobs)
+    return found if found is not None and 1 <= found <= 1024 else refuse(f"jobs={jobs!r} is no whole number from 1 to 1024")
+
+
+def levels_of(levels: Any, what: str = "levels") -> list[int]:
+    """The levels of percent polygons, of an argument."""
+    found = whole_numbers(levels, 1, 100, what)
     if len({*found}) < len(found):
-        refuse(f"levels={found} has a level twice")
+        refuse(f"{what}={found} has a level twice")
     return found
 
 
@@ -389,7 +414,8 @@ def home_range(
         of all, of fixes as near the earlier.
     by: makes a range of each group of an animal's fixes: of a 'year', a 'month' ('2024-05') or a 'season' of a year, by the
         clock of the fixes; of a column of the frame, or of the fixes; of values, one for each fix, or for each row of a frame (a
-        Series goes by its index); or of what a function of the fixes answers. Seasons are those of meteorology and are named by
+        Series goes by its index; a list beside fixes that were read is refused where it may be of the rows of their table); or of
+        what a function of the fixes answers. Seasons are those of meteorology and are named by
         their months, '2024 Jun-Aug', and '2023-2024 Dec-Feb' for a December with the months behind it. Moments name groups as
         their own clock shows them, and by days where all are midnights.
     program: the program; if left out, that in the environment as HOMERANGE, the package's own, that of the clone that the
@@ -408,13 +434,15 @@ def home_range(
     if by is not None:
         check_by(by, isinstance(x, (str, os.PathLike)))
     if jobs is not None:
-        jobs = whole_numbers([jobs], 1, 1024, "jobs")[0]
+        jobs = jobs_of(jobs)
     shown, found = progress_of(progress), program_of(find_program(program))
     with tempfile.TemporaryDirectory(prefix="homerange-") as folder:
         table = table_of(x, reading, Path(folder), program, by)
         tracks, groups = tracks_of_fixes(table.fixes), dict[str, Group]()
         if by is not None:
-            tracks, groups = group_tracks(tracks, labels_of(table, by))
+            labels = labels_of(table, by)
+            questions = [] if is_period(by) else questions_of(labels, Path(folder), program)
+            tracks, groups = group_tracks(tracks, labels, questions)
         own, files = reading_of(table.fixes), Path(folder) / "tracks"
         tell([*table.said, *tracks.notes[len(own.notes):]])
         made = files if files.is_dir() and by is None else None  # the files that the program made of these tracks
@@ -429,12 +457,14 @@ def table_of(x: Any, reading: dict[str, Any], folder: Path, program: str | os.Pa
     has_columns = by is not None and not is_period(by)
     if not isinstance(x, Fixes) or not is_of_fixes(x):
         return read_table(x, reading, folder, program, has_columns)
+    check_names(reading)
     named = next((name for name, value in reading.items() if value is not None), None)
     if named is not None:
         refuse(f"{named} says how a table is read, and these fixes were read already: give it to read_fixes")
-    return read_again(x, {}, folder, program, has_columns)
+    return read_again(x, {}, folder, program, has_columns, by)
 
 
+@says_ours
 def read_report(
     path: str | os.PathLike[str], *, files: Iterable[str | os.PathLike[str]] = (), crs: Any = None, tz: str = "UTC",
     shift: tuple[int, int] = (0, 0), program: str | os.PathLike[str] | None = None,
@@ -467,7 +497,7 @@ def check_grid(crs: Any, tz: str, shift: Any) -> None:
     """Refuses what is no reference system, no time zone, or no two whole metres."""
     zone_of_time(tz)
     if crs is not None:
-        crs_named(crs, "name that of the coordinates of the report, which are in metres")
+        crs_named(crs, "name that of the coordinates of the report, which are eastings and northings in metres")
     if not isinstance(shift, tuple) or len(shift) != 2 or None in map(whole_number, shift):
         refuse(f"shift={shift!r} are not two whole numbers, such as (1000000, 0)")
 
@@ -522,18 +552,19 @@ def check_whole(ranges: HomeRanges, what: str) -> None:
         refuse(f"{what} is of whole ranges, and these are by groups: make those of one group alone, of its fixes")
 
 
-def share_inside(ranges: HomeRanges, reserve: Any, level: int = 100) -> pandas.DataFrame:
-    """How much of each animal's range lies in a reserve: a row for each animal with ``animal``, ``level``, ``hectares``,
-    ``inside`` (hectares in the reserve) and ``share`` (0 to 1; NaN for a range without an area).
+@says_ours
+def share_inside(ranges: HomeRanges, reserve: Any, level: int | Iterable[int] = 100) -> pandas.DataFrame:
+    """How much of each animal's range lies in a reserve, at one level or at several below each other: a row for each animal with
+    ``animal``, ``level``, ``hectares``, ``inside`` (hectares in the reserve) and ``share`` (0 to 1; NaN for a range without an area).
 
     reserve: a GeoDataFrame or a GeoSeries, whose shapes are taken together, in whatever reference system; or a shape of
         shapely in that of the ranges. A shape of another system goes straight in that one; one that reaches to where the system
-        of the ranges has no places is taken as far as 100 km from the ranges.
+        of the ranges has no places is taken as far as 100 km from the ranges. Points and lines are refused, and beside polygons
+        left out as missing shapes are, which is said; so is a reserve that lies far from all ranges.
     """
-    if not isinstance(ranges, HomeRanges):
-        refuse(f"share_inside takes what home_range answers, and not a {type(ranges).__name__}")
-    boundary = boundary_of(reserve, ranges.crs, ranges.box)
-    polygons = ranges.polygons(level)
+    check_ranges(ranges)
+    boundary, levels = boundary_of(reserve, ranges.crs, ranges.box), levels_of(level, "level")
+    polygons = ranges.polygons(levels)
     inside = [shape.intersection(boundary).area / 10_000 for shape in polygons.geometry]
     whole = [shape.area / 10_000 for shape in polygons.geometry]
     known = [title for title in ("animal", "group", "level", "hectares") if title in polygons]

@@ -3,23 +3,30 @@ in its own system: so long edges get points between their ends before they are t
 
 from __future__ import annotations
 
+import math
+import os
 from typing import Any, List, Sequence, Tuple
 
 import numpy
+import pandas
 from numpy.typing import NDArray
 
 from ..errors import refuse
 from ..read.cells import row_named
+from ..read.reading import tell
 
 Bounds = Tuple[float, float, float, float]  # the least easting and northing, and the greatest
 Shapes = List[Any]
 Side = NDArray[numpy.float64]
 
 AROUND = 100_000  # metres around the ranges, to where a boundary is taken that is too wide for their system
-LONGEST_DEGREES, LONGEST_METRES = 0.1, 10_000.0  # of an edge, behind which it gets a point
-MISSED = 1e-3  # of the longest edge, by which a place may miss itself that is turned to another system and back
+LONGEST_DEGREES, LONGEST_METRES = 0.005, 500.0  # of an edge, behind which it gets a point: so a straight one is off by millimetres
+MISSED = 0.02  # of the longest edge, by which a place may miss itself that is turned to another system and back
 TORN = 100_000  # metres from one such point to the next, where an edge is torn apart
 HALF_TURN = 180
+HELP_LONG = ("if it crosses the date line, count its longitudes on beyond 180, as by GeoSeries([shapely.ops.transform("
+             "lambda x, y: (x % 360, y), shape) for shape in reserve.geometry], crs=reserve.crs); if it goes the long way, give it "
+             "corners between")
 HELP_WIDE = ("the reserve reaches to where the CRS of the ranges has no places: cut it to the surroundings of the ranges before, as by "
              "reserve.clip(box)")
 
@@ -29,49 +36,117 @@ def boundary_of(reserve: Any, crs: Any, box: Bounds) -> Any:
     own = getattr(reserve, "crs", None)
     if is_of_geopandas(reserve):
         if (own is None) != (crs is None):
-            who, how = ("ranges have", "home_range(.., crs=..)") if own is not None else ("reserve has", "reserve.set_crs(..)")
+            who, how = ("reserve has", "reserve.set_crs(..)") if own is None else (
+                "ranges have", "home_range(.., crs=..), or by read_report(.., crs=..)")
             refuse(f"the {who} no CRS, and the other has: name it, as by {how}", "crs")
-        shapes = checked_shapes(reserve)
-    elif hasattr(reserve, "intersection") and hasattr(reserve, "is_valid"):
+        shapes = checked_shapes(reserve, own is not None and own.is_geographic)
+        tell(said_of_rest(reserve))
+    elif hasattr(reserve, "intersection") and isinstance(getattr(reserve, "geom_type", None), str):
         check_shape(reserve, "", "shapely.validation.make_valid(reserve)")
         shapes = [reserve]
     else:
-        refuse("reserve is neither a GeoDataFrame, a GeoSeries nor a shape of shapely")
-    if not any(shape.area for shape in shapes):
-        refuse("the reserve has no area")
+        refuse(f"reserve is neither a GeoDataFrame with a geometry, a GeoSeries nor a shape of shapely: {help_for(reserve)}")
+    refuse_flat(shapes, is_of_geopandas(reserve))
     boundary = union_of(shapes if own is None or own == crs else turned_shapes(shapes, own, crs, box))
     if own is None and is_in_degrees(boundary.bounds) and not meets(boundary.bounds, box):
         refuse("the reserve has no CRS, and lies as longitude and latitude do: make a GeoSeries of it with its CRS, which is taken "
                "to that of the ranges", "degrees")
+    tell(said_of_far(boundary, box))
     return boundary
+
+
+def help_for(reserve: Any) -> str:
+    """What makes a boundary of something else."""
+    if isinstance(reserve, (str, os.PathLike)):
+        return "read its file, as by geopandas.read_file(reserve)"
+    if isinstance(reserve, pandas.Series):
+        return "take the shape of a row, as by reserve['geometry']"
+    if isinstance(reserve, pandas.DataFrame):
+        return "make a GeoDataFrame of a table with shapes, as by geopandas.GeoDataFrame(reserve, geometry='geometry', crs=..)"
+    return "make a GeoSeries of shapes, as by geopandas.GeoSeries(reserve, crs=..)"
+
+
+def refuse_flat(shapes: Shapes, are_several: bool) -> None:
+    """Refuses shapes of which none has an area."""
+    if any(shape.area for shape in shapes):
+        return
+    lines = "[*shapely.ops.polygonize(reserve.geometry)], crs=reserve.crs" if are_several else "[*shapely.ops.polygonize(reserve)]"
+    if not any(not shape.is_empty for shape in shapes):
+        refuse("the reserve has no area: there is no shape in it")
+    if any(shape.length for shape in shapes):
+        refuse(f"the reserve has no area: it is of lines, and polygons are wanted; geopandas.GeoSeries({lines}) makes them of closed lines")
+    refuse("the reserve has no area: it is of points, and polygons are wanted")
+
+
+def said_of_rest(reserve: Any) -> list[str]:
+    """What is said of the rows of a table or a column whose shapes bound nothing beside others."""
+    shapes = [*reserve.geometry]
+    if not any(shape is not None and shape.area for shape in shapes):
+        return []
+    are_empty = [shape is None or shape.is_empty for shape in shapes]
+    left = {"a shape": [at for at, is_empty in enumerate(are_empty) if is_empty],
+            "an area": [at for at, shape in enumerate(shapes) if not are_empty[at] and not shape.area]}
+    return [f"left out of the reserve, without {what}: {', '.join(row_named(reserve.index, at) for at in rows[:5])}"
+            + (f" and {len(rows) - 5} more" if len(rows) > 5 else "") for what, rows in left.items() if rows]
+
+
+def said_of_far(boundary: Any, ranges: Bounds) -> list[str]:
+    """What is said of a boundary that lies far from all ranges: their boxes do not meet, though each is widened by its own longer
+    side."""
+    away = f"more than {AROUND // 1000}"  # of one that was cut there
+    if not boundary.is_empty:
+        boxes = (boundary.bounds, ranges)
+        gaps = [max(own[at] for own in boxes) - min(own[at + 2] for own in boxes) for at in (0, 1)]
+        if max(gaps) <= sum(max(own[2] - own[0], own[3] - own[1]) for own in boxes):
+            return []
+        away = f"at least {math.hypot(*(max(gap, 0) for gap in gaps)) / 1000:.1f}"
+    return [f"the reserve lies {away} km away from all ranges: is it the right one, and its CRS?"]
 
 
 def is_of_geopandas(reserve: Any) -> bool:
     """Whether a reserve is a table or a column of shapes."""
-    return hasattr(reserve, "geometry") or hasattr(reserve, "geom_type") and not isinstance(reserve.geom_type, str)
+    is_table = hasattr(reserve, "set_crs") and hasattr(reserve, "geometry")  # which a data frame of pandas is not
+    has_shapes = hasattr(reserve, "geometry") and hasattr(reserve, "geom_type") and not isinstance(reserve.geom_type, str)
+    return is_table or has_shapes
 
 
-def checked_shapes(reserve: Any) -> Shapes:
+def checked_shapes(reserve: Any, are_degrees: bool) -> Shapes:
     """The shapes of a table or a column, each of which is a boundary."""
     shapes = [*reserve.geometry]
     for at, shape in enumerate(shapes):
         if shape is not None:
-            check_shape(shape, f"{row_named(reserve.index, at)}: ", "reserve.make_valid()")
+            check_shape(shape, f"{row_named(reserve.index, at)}: ", "reserve.make_valid()", are_degrees)
     return [shape for shape in shapes if shape is not None and not shape.is_empty]
 
 
-def check_shape(shape: Any, where: str, helps: str) -> None:
+def check_shape(shape: Any, where: str, helps: str, are_degrees: bool = False) -> None:
     """Refuses a shape that bounds nothing, with where it stands."""
     from shapely.validation import explain_validity
 
     if not numpy.isfinite(shape.bounds).all():
         refuse(f"{where}the boundary of the reserve has a corner that is no number: mend it, or leave it out")
+    if are_degrees and not shape.is_empty and (numpy.abs(numpy.round(shape.bounds, 6)) > (2 * HALF_TURN, HALF_TURN / 2) * 2).any():
+        refuse(f"{where}the boundary of the reserve goes to {shape.bounds[2]:.10g}, {shape.bounds[3]:.10g}, which is no longitude and latitude, "
+               "though its CRS is of these: if it is in metres, name their CRS, as by reserve.set_crs(32633, allow_override=True)")
+    step = longest_step(shape) if are_degrees else 0
+    if step > HALF_TURN:
+        refuse(f"{where}the boundary of the reserve has an edge of {step:.10g} degrees of longitude: {HELP_LONG}")
     if not shape.is_valid:
         why = explain_validity(shape)
         if "Invalid Coordinate" in why:
             refuse(f"{where}the boundary of the reserve has a corner that is no number: mend it, or leave it out")
         what = "has a hole that lies outside of it" if why.startswith("Hole") else "crosses itself"
         refuse(f"{where}the boundary of the reserve {what}: mend it, as by {helps}")
+
+
+def longest_step(shape: Any) -> float:
+    """How far two corners of a shape, one behind the other, lie apart in longitude, at most.
+    A full circle apart they are one place."""
+    if hasattr(shape, "geoms"):
+        return max(map(longest_step, shape.geoms), default=0)
+    rings = [shape.exterior, *shape.interiors] if hasattr(shape, "exterior") else []
+    steps = numpy.abs([step for ring in rings for step in numpy.diff([corner[0] for corner in ring.coords])])
+    return float(steps[steps != 2 * HALF_TURN].max(initial=0))
 
 
 def union_of(shapes: Shapes) -> Any:

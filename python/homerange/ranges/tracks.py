@@ -38,6 +38,7 @@ class Tracks:
     reasons: Counter[tuple[str, str]] = field(default_factory=Counter)  # fixes left out, by animal and why
     names: dict[str, str] = field(default_factory=dict)  # in files, of animals that have another one there
     record: bytes | None = None  # what the program wrote of these tracks
+    is_frame: bool = False  # whether the export that it names is the text of a frame, which nobody has
     is_again: bool = False  # whether they are of fixes that were read before, and changed
 
 
@@ -52,7 +53,7 @@ def tracks_of_fixes(fixes: Fixes) -> Tracks:
         left_out[name] += count
     known = [name for name in reading.counts if name not in reading.unknown]
     return Tracks(dict(zip(reading.counts, parts)), {name: left_out[name] for name in known}, reading.shift,
-                  [*reading.notes], Counter(reading.left), dict(reading.names), reading.record, reading.is_again)
+                  [*reading.notes], Counter(reading.left), dict(reading.names), reading.record, reading.is_frame, reading.is_again)
 
 
 def seconds_of(fixes: Fixes) -> Whole:
@@ -72,14 +73,14 @@ def track_text(name: str, track: Track) -> bytes:
     """The file of an animal of this name, byte by byte as the program writes it."""
     numbers = track.ravel().tolist()
     row = f"{name.replace('%', '%%')},%d,%d,%d\n".encode()
-    return HEAD + b"".join(pieces(row, numbers))
+    return HEAD + b"".join(pieces(row, numbers, 3))
 
 
-def pieces(row: bytes, numbers: list[int]) -> Iterator[bytes]:
-    """Rows of three numbers each, some together."""
-    for first in range(0, len(numbers), 3 * ROWS):
-        cells = tuple(numbers[first:first + 3 * ROWS])
-        yield row * (len(cells) // 3) % cells
+def pieces(row: bytes, numbers: list[int], count: int) -> Iterator[bytes]:
+    """Rows of so many numbers each, some together."""
+    for first in range(0, len(numbers), count * ROWS):
+        cells = tuple(numbers[first:first + count * ROWS])
+        yield row * (len(cells) // count) % cells
 
 
 def read_track(path: str | os.PathLike[str]) -> tuple[str, Track, int]:
@@ -117,5 +118,7 @@ def tracks_of_files(report: Report, files: Iterable[str | os.PathLike[str]]) -> 
         if polygon_of(outer_fixes(read[name][0][:, 1:], table.corners)) != table.corners:
             raise ReportError(f"the polygon of the file of {name} is not that of the report")
     unused = {name: read[name][1] for name in report.tables}
+    if not any(unused.values()):
+        unused = {}  # what was left out before is not in the files
     reasons = Counter({(name, "use"): count for name, count in unused.items()})
     return Tracks({name: read[name][0] for name in report.tables}, unused, reasons=reasons)

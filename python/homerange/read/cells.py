@@ -7,6 +7,7 @@ import datetime as clock
 import re
 from decimal import Decimal
 from functools import lru_cache
+from numbers import Real
 from typing import Any, Callable, List
 
 import numpy
@@ -26,6 +27,7 @@ TRUTHS = {True: "true", False: "false"}
 SECONDS = 86_400  # of a day
 DAY = SECONDS * 10 ** 9  # nanoseconds
 THOUSAND = 1000
+LIKE_THOUSANDS = re.compile("-?[0-9]{1,3}([.][0-9]{3})?")  # a number below 1000 with three decimals, or with none
 
 
 def cells_of(series: pandas.Series) -> Cells:
@@ -235,10 +237,10 @@ def odd_row(series: pandas.Series) -> tuple[int, str] | None:
 
 
 def are_like_thousands(series: pandas.Series) -> bool:
-    """Whether the point of all numbers of floating point of a column could be one before thousands, as in 123.456."""
+    """Whether the point of all decimals of a column of numbers could be one before thousands, as in 123.456."""
     own = pandas.Series(series.cat.categories) if isinstance(series.dtype, pandas.CategoricalDtype) else series
-    if own.dtype == object and pandas.api.types.infer_dtype(own.dropna()) == "floating":
-        own = own.dropna().astype("float64")
+    if own.dtype == object or "decimal" in str(own.dtype):
+        return are_objects_like_thousands(own)
     if not pandas.api.types.is_float_dtype(own.dtype):
         return False
     kind = getattr(own.dtype, "numpy_dtype", own.dtype)
@@ -250,6 +252,15 @@ def are_like_thousands(series: pandas.Series) -> bool:
     wide = has_part.astype("float64")
     thousandths, hundredths = ((numpy.rint(wide * parts) / parts).astype(numbers.dtype) for parts in (1000, 100))
     return bool((thousandths == has_part).all() and (hundredths != has_part).all())
+
+
+def are_objects_like_thousands(values: pandas.Series) -> bool:
+    """The same of numbers of whatever classes, by their cells."""
+    known = [value for value in values if not is_missing(value)]
+    if not all(isinstance(value, (Real, Decimal)) and not isinstance(value, bool) for value in known):
+        return False
+    cells = [*filter(None, map(cell_of, known))]
+    return any("." in cell for cell in cells) and all(map(LIKE_THOUSANDS.fullmatch, cells))
 
 
 def whole_cell(value: Any) -> str:

@@ -40,11 +40,12 @@ MARKS = {"use", "visible", "manually-marked-outlier", "algorithm-marked-outlier"
 
 
 class Seen(NamedTuple):
-    """Fixes as they were read: a number for each by its moment and its place, and the columns that it was read from, or that say
-    which fixes count."""
+    """Fixes as they were read: a number for each by its moment and its place, the columns that it was read from, or that say which
+    fixes count, and a number for each by that and by its label, where labels are those of the table."""
 
     keys: Numbers
     columns: dict[str, pandas.Series]
+    labels: Numbers | None
 
 
 def title_of_time(fixes: pandas.DataFrame) -> str:
@@ -57,13 +58,16 @@ def own_titles(fixes: pandas.DataFrame) -> list[str]:
     return ["animal", title_of_time(fixes), *PLACES]
 
 
-def seen(fixes: pandas.DataFrame, sources: Iterable[str]) -> Seen:
-    """Fixes as they were read from columns with these titles, as far as they have them."""
+def seen(fixes: pandas.DataFrame, sources: Iterable[str], is_labelled: bool) -> Seen:
+    """Fixes as they were read from columns with these titles, as far as they have them, by the labels of their table if they have
+    these."""
     own, there = own_titles(fixes), [*map(str, fixes.columns)]
     wanted = [*sources, *(title for title in there if says_which_count(title) and title not in sources)]
     titles = [title for title in wanted if title not in own and there.count(title) == 1]
     columns = (fixes.iloc[:, there.index(title)] for title in titles)
-    return Seen(keys_of(fixes), {title: column.reset_index(drop=True).copy() for title, column in zip(titles, columns)})
+    keys = keys_of(fixes)
+    return Seen(keys, {title: column.reset_index(drop=True).copy() for title, column in zip(titles, columns)},
+                hashed(keys, fixes.index) if is_labelled else None)
 
 
 def keys_of(fixes: pandas.DataFrame) -> Numbers:
@@ -217,6 +221,21 @@ def names_read(reading: Reading) -> Numbers:
     """The animal of each fix that was read."""
     several = [(name, count) for part in parts_of(reading) for name, count in part.counts.items()]
     return numpy.repeat(numpy.array([name for name, _ in several], dtype=object), [count for _, count in several])
+
+
+def are_rows_of_table(fixes: pandas.DataFrame, reading: Reading) -> bool:
+    """Whether fixes are those of the rows of their table, each of its own, in the order of these."""
+    names = numpy.array(cells_of(fixes["animal"]), dtype=object)
+    return reading.is_in_order and not reading.parts and numpy.array_equal(keys_read(reading), keys_of(fixes)) and numpy.array_equal(
+        names_read(reading), names)
+
+
+def has_labels(fixes: pandas.DataFrame, reading: Reading) -> bool:
+    """Whether each of some fixes has a label of its own, that of its row in the table."""
+    several = [part.seen.labels for part in parts_of(reading) if part.seen is not None]
+    known = [labels for labels in several if labels is not None]
+    is_whole = len(known) == len(several) > 0 and fixes.index.is_unique
+    return is_whole and bool(is_among(hashed(keys_of(fixes), fixes.index), numpy.concatenate(known)).all())
 
 
 def refuse_unread(fixes: pandas.DataFrame, reading: Reading, read: frozenset[str]) -> None:

@@ -28,8 +28,9 @@ class Reading:
     """How fixes were read: the unit to which coordinates were rounded, their zone and reference system (None where it is not
     known), the zone of their times, how many metres the program added to coordinates, what was said, how many fixes were left
     out by animal and reason, how many fixes each animal had, the names that files have of animals, the record that the program
-    wrote, the checksum of the rows that were read, the titles of their table and of those of its columns that were read, and what
-    tells each fix."""
+    wrote, whether the export that it names is the text of a frame, the checksum of the rows that were read, the titles of their
+    table and of those of its columns that were read, whether the fixes are the rows of a frame in its order, and whether they have
+    its labels, and what tells each fix."""
 
     unit: str
     zone: str | None
@@ -41,12 +42,15 @@ class Reading:
     counts: dict[str, int] = field(default_factory=dict)
     names: dict[str, str] = field(default_factory=dict)
     record: bytes | None = None  # None where they were bound of several
+    is_frame: bool = False  # and not a file
     rows: str | None = None  # None where they were bound of several
     parts: tuple[Reading, ...] = ()  # of which they were bound
     is_again: bool = False  # whether it is of fixes that were read before, and changed
     titles: frozenset[str] = frozenset()
     sources: frozenset[str] = frozenset()
     unknown: frozenset[str] = frozenset()  # animals of which it is not known how many fixes were left out
+    is_in_order: bool = False
+    is_labelled: bool = False
     seen: Seen | None = field(default=None, compare=False, repr=False)
 
     @property
@@ -205,7 +209,7 @@ def told(fixes: Fixes) -> str:
     """What was taken, left out and asked when fixes were read."""
     reading = reading_of(fixes)
     questions = [note for note in reading.notes if note.endswith("?")]
-    lines = [head(fixes, reading), *(note for note in reading.notes if note.startswith(("columns: ", "not read: ")))]
+    lines = [head(fixes, reading), *(note for note in reading.notes if note.startswith(("columns: ", "not read: ", "read again by columns: ")))]
     totals = Counter[str]()
     for (_, reason), count in reading.left.items():
         totals[reason] += count

@@ -5,30 +5,34 @@ from __future__ import annotations
 import os
 import re
 import shutil
+import sys
 import tempfile
 import warnings
 from collections import Counter
 from dataclasses import replace
 from pathlib import Path
+from types import FrameType
 from typing import Any, Callable, Iterable, Mapping, NamedTuple, Sequence
 
 import numpy
 import pandas
 from numpy.typing import NDArray
+from pandas.core.groupby import DataFrameGroupBy
 
-from ..errors import FrameError, HomeRangeInfo, HomeRangeNote, one_line, path_of, refuse
-from ..program import find_split_program
+from ..errors import FrameError, HomeRangeInfo, HomeRangeNote, check_no_pipe, one_line, path_of, refuse
+from ..program import PACKAGE, find_split_program
 from ..record import Record, read_record
 from ..units import UNITS, zone_text
 from ..zones import crs_of, text_of_crs
 from .call import as_arguments, split_table
 from .cells import cells_of
 from .changes import (
-    PLACES, checksum_of_rows, judged_rows, left_since, own_titles, refuse_changed, refuse_unread, refuse_unread_rows, seen,
-    with_named_levels)
+    PLACES, are_rows_of_table, checksum_of_rows, has_labels, judged_rows, left_since, own_titles, refuse_changed, refuse_unread,
+    refuse_unread_rows, seen, with_named_levels)
 from .fixes import Fixes, Reading, clock_of, is_known, is_of_classes, reading_of
+from .helps import with_help
 from .refusals import COLUMNS, check_cells, columns_read, refuse_text
-from .systems import are_degrees, crs_named, options_of, refuse_beside_zone, scale_said
+from .systems import are_degrees, crs_named, options_of, refuse_beside_zone, scales_said
 from .text import (
     NAME, Text, frame_given, has_times, in_own_words, plain, text_of_frame, with_clock_of, with_time_named, write_text, zones_in)
 from .tracks import NAMED, Whole, left_out, own_names, read_tracks, rows_of
@@ -38,8 +42,9 @@ from .words import words_of_options
 SINCE_1970 = (10 ** 8, 9_223_372_036)  # seconds that have a calendar: from 1973 to where pandas' times end
 DONE = (": left out", ": sorted by time")  # how lines end that say what was done to rows, and was not when these were read
 # How lines begin that say what was taken, and nothing that was left out or changed.
-TAKEN = ("columns: ", "UTM coordinates are", "coordinates are those", "longitude and latitude are", "days and hours are",
-         "ranges are by group", "not read: ", "times are read as ", "points of ")
+READ, NOT_READ = "columns: ", "not read: "
+TAKEN = (READ, "UTM coordinates are", "coordinates are those", "longitude and latitude are", "days and hours are",
+         "ranges are by group", NOT_READ, "times are read as ", "points of ")
 
 
 # Options that want columns of fixes beside their own.
@@ -60,10 +65,19 @@ class ReadTable(NamedTuple):
 
 
 def tell(lines: Iterable[str]) -> None:
-    """Says in warnings what was taken, left out or changed."""
+    """Says in warnings what was taken, left out or changed, as of the line that called the package."""
+    depth = 1 + calls_within(sys._getframe(1))
     for line in lines:
         is_info = line.startswith(TAKEN) or NAMED.fullmatch(line)
-        warnings.warn(line, HomeRangeInfo if is_info else HomeRangeNote, stacklevel=3)
+        warnings.warn(line, HomeRangeInfo if is_info else HomeRangeNote, stacklevel=depth)
+
+
+def calls_within(frame: FrameType | None) -> int:
+    """How many calls of functions of the package, one within the other, lead from its user to a frame, and that of the user."""
+    calls = 1
+    while frame is not None and str(frame.f_globals.get("__name__")).partition(".")[0] == PACKAGE.name:
+        frame, calls = frame.f_back, calls + 1
+    return calls
 
 
 def read_fixes(x: Any, *, program: str | os.PathLike[str] | None = None, **options: Any) -> Fixes:
@@ -87,7 +101,9 @@ def read_fixes(x: Any, *, program: str | os.PathLike[str] | None = None, **optio
     table = read_either(x, options, program)
     tell(table.said)
     own = reading_of(table.fixes)
-    table.fixes.reading = replace(own, rows=checksum_of_rows(table.fixes, own.titles), seen=seen(table.fixes, own.sources))
+    is_labelled = own.is_labelled and (own.seen is None or has_labels(table.fixes, own))
+    known = seen(table.fixes, own.sources, is_labelled)
+    table.fixes.reading = replace(own, rows=checksum_of_rows(table.fixes, own.titles), seen=known)
     return table.fixes
 
 
@@ -112,11 +128,23 @@ def read_table(
     own, options = frame_given(x), {**options, "tz": zone_text(options.get("tz"))}
     words_of_options({**options, "crs": None})  # what cannot be right is refused before anything is looked for
     if isinstance(own, (str, os.PathLike)):
-        return read_file(path_of(own, "path"), options, folder, find_split_program(program))
+        return read_file(check_no_pipe(path_of(own, "path")), options, folder, find_split_program(program))
     if not isinstance(own, pandas.DataFrame):
-        helps = ": make it one, as by to_pandas()" if hasattr(own, "to_pandas") else ""
-        refuse(f"a {type(x).__name__} is neither a path nor a data frame with a row for each fix{helps}", "empty")
+        refuse(f"a {type(x).__name__} is neither a path nor a data frame with a row for each fix: {help_for_table(own)}")
     return read_frame(own, options, folder, find_split_program(program), has_columns)
+
+
+def help_for_table(x: Any) -> str:
+    """How what is no table is made one."""
+    several = [*(x.values() if isinstance(x, dict) else x)] if isinstance(x, (list, tuple, dict)) else []
+    if several and all(isinstance(path, (str, os.PathLike)) for path in several):
+        return f"read each path, as by pandas.concat(map(pandas.read_csv, {'x.values()' if isinstance(x, dict) else 'x'}))"
+    if several and all(isinstance(frame, pandas.DataFrame) for frame in several):
+        named = ", or where its keys are the names of the animals by pandas.concat(x, names=['animal'])" if isinstance(x, dict) else ""
+        return f"bind those that are in it, as by pandas.concat({'x.values()' if named else 'x'}, ignore_index=True){named}"
+    if isinstance(x, DataFrameGroupBy):
+        return "take the frame that was grouped, x.obj: ranges are of each animal anyway, and by makes those of groups"
+    return f"make it one, as by {'to_pandas()' if hasattr(x, 'to_pandas') else 'pandas.DataFrame(..)'}"
 
 
 def refuse_part(x: Any) -> None:
@@ -129,9 +157,10 @@ def refuse_part(x: Any) -> None:
 
 
 def read_again(fixes: Fixes, options: Mapping[str, Any], folder: Path, program: str | os.PathLike[str] | None = None,
-               has_columns: bool = True) -> ReadTable:
+               has_columns: bool = True, used: Any = None) -> ReadTable:
     """Fixes as they were read, if their rows are still the same and no option is named; else the program reads their rows as a
-    frame. Only what was not said before is said, and not what was taken."""
+    frame. Only what was not said before is said, and not what was taken; of columns that were added, but for one that is used
+    otherwise, that they are not read."""
     before, wishes = reading_of(fixes), {name: zone_text(value) for name, value in options.items() if value is not None}
     words_of_options({**wishes, "crs": None})
     if not len(fixes):
@@ -140,7 +169,7 @@ def read_again(fixes: Fixes, options: Mapping[str, Any], folder: Path, program: 
         refuse_without_zone(fixes["time"])
     if before.rows == checksum_of_rows(fixes, before.titles) and not wishes:
         refuse_changed(fixes, before)
-        return ReadTable(fixes)
+        return with_added_said(ReadTable(fixes), fixes, used)
     refuse_system(before, wishes)
     refuse_unread_rows(fixes, before)
     found = read_text(text_again(fixes, before, wishes), folder, find_split_program(program), has_columns)
@@ -151,14 +180,39 @@ def read_again(fixes: Fixes, options: Mapping[str, Any], folder: Path, program: 
     lost = [] if found.rows is None else lost_said(further, before.sources)
     new = [note for note in (*own.notes, *lost) if (note not in before.notes or note.endswith(DONE)) and not note.startswith(TAKEN)]
     since = left_since(fixes, before)
-    own = replace(own, notes=(*before.notes, *new), left=since.counts + Counter(own.left), is_again=True, titles=before.titles,
-                  sources=before.sources, unknown=since.unknown)
+    own = replace(own, notes=(*notes_again(before, own, fixes, wishes), *new), left=since.counts + Counter(own.left), is_again=True,
+                  titles=before.titles, sources=before.sources | (own.sources - {*OWN}), unknown=since.unknown,
+                  is_labelled=has_plain_labels(fixes) and has_labels(fixes, before), is_in_order=found.rows is not None and
+                  is_in_order(found.rows, fixes) and are_rows_of_table(fixes, before))
     table = found.fixes if found.rows is None else with_columns(found.fixes, fixes, found.rows)
     zone = getattr(fixes["time"].dtype, "tz", None) if "time" in fixes and "tz" not in wishes else None
     if zone is not None and "time" in table:
         table["time"] = table["time"].dt.tz_convert(zone)
     table.reading = own
-    return ReadTable(table, new, fixes, found.rows)
+    return with_added_said(ReadTable(table, new, fixes, found.rows), fixes, used)
+
+
+def with_added_said(table: ReadTable, fixes: Fixes, used: Any) -> ReadTable:
+    """A table of these fixes with what is said of columns that were added to them, and not read."""
+    own = reading_of(table.fixes)
+    known = {*own.titles, *own.sources, *OWN, *([used] if isinstance(used, str) else [])}
+    added = [title for title in dict.fromkeys(map(str, with_named_levels(fixes).columns)) if title not in known]
+    if not added:
+        return table
+    line, found = NOT_READ + ", ".join(map(one_line, added)), table.fixes.copy(deep=False)
+    found.reading = replace(own, notes=(*own.notes, line), titles=own.titles | {*added})
+    return table._replace(fixes=found, said=[*table.said, line])
+
+
+def notes_again(before: Reading, own: Reading, fixes: Fixes, wishes: Mapping[str, Any]) -> list[str]:
+    """What was said of fixes that are read again, but for titles that were not read and are now; and by which columns they are read,
+    where others than their own were named."""
+    rest = [note.removeprefix(NOT_READ).split(", ") for note in before.notes if note.startswith(NOT_READ)]
+    left = [title for titles in rest for title in titles if title not in own.sources]
+    notes = [note for note in before.notes if not note.startswith(NOT_READ)] + [NOT_READ + ", ".join(left)] * bool(left)
+    columns = [note.removeprefix(READ).split("; ")[0] for note in own.notes if note.startswith(READ)]
+    are_own = columns in ([], [", ".join(own_titles(fixes))])
+    return notes if are_own or not OF_COLUMNS & {*wishes} else [*notes, f"read again by columns: {columns[0]}"]
 
 
 def refuse_without_zone(times: pandas.Series) -> None:
@@ -209,7 +263,7 @@ def read_file(path: Path, options: Mapping[str, Any], folder: Path, program: str
     try:
         split_table(str(path), str(folder / "tracks"), words_of_options(found), program)
     except FrameError as fault:
-        shown, text = one_line(str(path)), as_arguments(str(fault), fault.kind)
+        shown, text = one_line(str(path)), as_arguments(with_help(str(fault), options), fault.kind)
         text = text if fault.record is None else f"record {fault.record}: {text}"
         raise FrameError(text if text.startswith(shown) else f"{shown}: {text}", fault.kind, fault.record) from None
     record = read_record(folder / "tracks" / "split.txt")
@@ -227,7 +281,8 @@ def read_frame(frame: pandas.DataFrame, options: Mapping[str, Any], folder: Path
         return found._replace(frame=frame)
     lost = lost_said(frame, reading_of(found.fixes).sources)
     fixes = with_columns(found.fixes, frame, found.rows)
-    fixes.reading = replace(reading_of(fixes), notes=(*reading_of(fixes).notes, *lost))
+    fixes.reading = replace(reading_of(fixes), notes=(*reading_of(fixes).notes, *lost), is_in_order=is_in_order(found.rows, frame),
+                            is_labelled=has_plain_labels(frame))
     return found._replace(fixes=fixes, frame=frame, said=reading_of(fixes).notes)
 
 
@@ -256,7 +311,7 @@ def read_text(text: Text, folder: Path, program: str, has_rows: bool) -> ReadTab
     fixes = fixes_of(whole, record, folder, text.options.get("tz"), text.crs, notes, lambda line: said_of(line, text))
     titles, sources = (frozenset(in_own_words(column.title, text) for column in several)
                        for several in (text.columns, columns_read(text, record)))
-    fixes.reading = replace(reading_of(fixes), titles=titles, sources=sources)
+    fixes.reading = replace(reading_of(fixes), titles=titles, sources=sources, is_frame=True)
     return ReadTable(fixes, reading_of(fixes).notes, None, rows if has_rows else None)
 
 
@@ -301,7 +356,7 @@ def fixes_of(whole: Whole, record: Record, folder: Path, tz: str | None, crs: An
     fixes = Fixes({"animal": whole.per_fix(names), **when, "easting": east, "northing": north})
     middles = {name: (float(east[part].mean()), float(north[part].mean())) for name, part in zip(names, parts_of(whole.counts))}
     said = [as_arguments(in_words(line)) for line in record.said]
-    shown = [*notes, *said, *scale_said(crs, record.zone, middles)]
+    shown = [*notes, *said, *scales_said(crs, record.zone, middles)]
     fixes.reading = Reading(
         record.unit, record.zone, crs, clock, record.shift, tuple(shown), left_out(record, own), dict(zip(names, whole.counts)),
         {name: file for file, name in own.items()}, (folder / "tracks" / "split.txt").read_bytes())
@@ -329,6 +384,16 @@ def times_of(seconds: pandas.Series, tz: str) -> pandas.Series:
     return times.dt.tz_localize("UTC").dt.tz_convert(tz)
 
 
+def is_in_order(rows: NDArray[numpy.int64], frame: pandas.DataFrame) -> bool:
+    """Whether the rows of fixes are all of a frame, in its order."""
+    return numpy.array_equal(rows, numpy.arange(len(frame)))
+
+
+def has_plain_labels(frame: pandas.DataFrame) -> bool:
+    """Whether the rows of a frame have labels that its fixes have too."""
+    return frame.index.nlevels == 1 and frame.index.name is None and not isinstance(frame.index, pandas.DatetimeIndex)
+
+
 def with_columns(fixes: Fixes, frame: pandas.DataFrame, rows: NDArray[numpy.int64]) -> Fixes:
     """The fixes with the other columns of their frame and the named levels of its index, and its labels where it has plain ones."""
     columns = with_named_levels(frame)
@@ -337,7 +402,7 @@ def with_columns(fixes: Fixes, frame: pandas.DataFrame, rows: NDArray[numpy.int6
           and str(title) not in OWN and titles.count(title) == 1]
     own = columns.iloc[rows, at].reset_index(drop=True)
     found = Fixes(pandas.concat([pandas.DataFrame(fixes), own], axis="columns"))
-    if frame.index.nlevels == 1 and frame.index.name is None and not isinstance(frame.index, pandas.DatetimeIndex):
+    if has_plain_labels(frame):
         found.index = frame.index.take(rows)
     found.reading = fixes.reading
     return found

@@ -15,14 +15,17 @@ from ..errors import FrameError, one_line, refuse
 from ..record import Record
 from .call import as_arguments
 from .cells import IANA, cell_of, is_missing, is_time, odd_row, row_named
+from .helps import with_help
 from .systems import TITLES_OF_DEGREES
 from .text import NAME, Column, Text, has_times, in_own_words, titles_named, zones_in
 
+LOST_DIGITS = "a number that has lost digits"
+HELP_DIGITS = "read its column as text, as by pandas.read_csv(.., dtype=str)"
 # What the program says of files, and what is said of frames in its place.
 OF_FILES = {re.compile("(?<=may stand before thousands): export without it"): ": make numbers of its column, if they are decimals",
             re.compile("say so by --lon 'point .*"):
                 "give the points the reference system that they have, as by frame.set_crs(4326, allow_override=True)",
-            re.compile("(?<=a number that has lost digits): .*"): ": read its column as text, as by dtype=str",
+            re.compile(f"(?<={LOST_DIGITS}): .*"): f": {HELP_DIGITS}",
             re.compile(f"^{NAME} has (.*): is its separator another[?]$"): r"the data frame has \1"}
 HELP_SWAPPED = ("are x and y of the points the other way? frame.set_geometry(geopandas.points_from_xy(frame.geometry.y, frame.geometry.x, "
                 "crs=frame.crs)) turns them")
@@ -52,7 +55,8 @@ def with_remedy(said: str, text: Text) -> str:
     if length is not None:
         return re.sub(r": (if it is one|write|name)\b.*", f": {help_for_lengths(length, text)}", said)
     if "both fit the time: " in said or "and not a time " in said:
-        return with_moments_alone(said, text)
+        own = with_moments_alone(said, text)
+        return with_help(said, text.options, text.columns) if own == said else own
     if str(text.options.get("lat")).startswith(TITLES_OF_DEGREES["lat"]):
         said = re.sub(": coordinates in metres are named by .*", f": {HELP_METRES}", said)
         return re.sub(": are their columns to be named the other way.*", f": {HELP_SWAPPED}", said)
@@ -61,7 +65,7 @@ def with_remedy(said: str, text: Text) -> str:
                 f"of them, as by geopandas.GeoDataFrame(frame, geometry={text.shapes!r}, crs=..)")
     if "there is no column" in said and any(sign in column.title for column in text.columns for sign in ",|"):
         return f"{said}: rename columns whose titles have a comma or |"
-    return said
+    return with_help(said, text.options, text.columns)
 
 
 def has_lengths(column: Column) -> bool:

@@ -1,5 +1,5 @@
-"""Reference systems of coordinates and of points: which are planes in metres, what names them, and how much greater areas are
-on their grids. docs/TABLES.md, Coordinates."""
+"""Reference systems of coordinates and of points: which are planes in metres, what names them, and how areas and lengths differ on
+their grids. docs/TABLES.md, Coordinates."""
 
 from __future__ import annotations
 
@@ -12,7 +12,7 @@ import pandas
 from numpy.typing import NDArray
 
 from ..errors import refuse
-from ..zones import REFUSED, TOLD, scale_of_crs, text_of_crs, zone_of, zone_of_crs
+from ..zones import REFUSED, TOLD, Scales, scales_of_crs, text_of_crs, zone_of, zone_of_crs
 from .cells import row_named
 
 if TYPE_CHECKING:
@@ -20,9 +20,10 @@ if TYPE_CHECKING:
 
 DEGREES = "EPSG:4326"  # longitude and latitude as the program takes them
 HELP = "project it first, as by frame.to_crs(frame.estimate_utm_crs())"
-HELP_NAMED = "make points of its columns and project these first, as by geopandas.points_from_xy(x, y, crs=..) and to_crs"
+HELP_NAMED = "make points of its columns and project these first, as by geopandas.points_from_xy({}, {}, crs=..) and to_crs"
+HELP_SCALE = "take a zone or a reference system of the place"
 PROJECTED = "longitude and latitude are projected into zone "  # how the program begins what it says of degrees that it projected
-HELP_LOCAL = "make metres of its coordinates, which need no CRS"
+HELP_LOCAL = "make {} of its coordinates, which need no CRS"
 METRE = {"metre", "meter", "metres", "meters", "m"}  # in small letters
 RADIUS = (6_350_000, 6_400_000)  # metres between which that of a body is one of the Earth
 TITLES = {"easting": "point easting", "northing": "point northing"}
@@ -42,7 +43,8 @@ def crs_named(crs: Any, helps: str | None = None) -> Any:
     # A text that is neither a code nor a definition is a name, of which pyproj takes one that has it as a part.
     is_name = isinstance(crs, str) and not re.search("[:+=\\[{]|^[0-9]+$", crs)
     if found is None or is_name and found.name.lower() != crs.lower():
-        refuse(f"crs={crs!r} names no reference system", "crs")
+        helps = f": a zone is named by zone={crs!r}" if isinstance(crs, str) and re.fullmatch("[0-9]{1,2} ?[NSns]", crs) else ""
+        refuse(f"crs={crs!r} names no reference system{helps}", "crs")
     if found.is_geographic:
         refuse(f"the CRS {found.name} has longitude and latitude, which are no plane coordinates: "
                f"{helps or 'name their columns by lon and lat, without crs'}", "crs")
@@ -62,18 +64,34 @@ def check_body(crs: Any) -> None:
 
 
 def check_plane(crs: Any, helps: str = HELP) -> None:
-    """Refuses a reference system that is no plane in metres, with what helps."""
+    """Refuses a reference system that is no plane of eastings and northings in metres, with what helps."""
     check_body(crs)
-    odd = sorted({unit for axis in crs.axis_info[:2] for unit in other_unit(axis)})
+    named = helps.format("eastings", "northings")
     if not crs.is_projected and not crs.is_engineering:
-        refuse(f"the CRS {crs.name} is not a plane one in metres: {helps}", "crs")
+        refuse(f"the CRS {crs.name} is not a plane one in metres: {named}", "crs")
+    odd = sorted({unit for axis in crs.axis_info[:2] for unit in other_unit(axis)})
     if odd:
-        helps = HELP_LOCAL if is_local(crs) else helps
-        refuse(f"the CRS {crs.name} is in {', '.join(odd)} and not in metres: {helps}", "crs")
-    if crs.to_epsg() == 3857:
-        refuse(f"areas in the CRS {crs.name} grow away from the equator: {helps}", "scale")
+        refuse(f"the CRS {crs.name} is in {', '.join(odd)} and not in metres: {HELP_LOCAL.format('metres') if is_local(crs) else named}", "crs")
     if crs.is_projected and not has_way(crs):
         refuse_way(crs)
+    check_axes(crs, helps)
+    if crs.to_epsg() == 3857:
+        refuse(f"areas in the CRS {crs.name} grow away from the equator: {named}", "scale")
+
+
+def turned_axes(crs: Any) -> list[str]:
+    """Where the axes of a plane go, if one goes west, or one alone south, and so what stands on the map as north and east is another
+    way; none else. Around a pole both go south."""
+    ways = [axis.direction for axis in crs.axis_info[:2]]
+    return ways if "west" in ways or ways.count("south") == 1 else []
+
+
+def check_axes(crs: Any, helps: str) -> None:
+    """Refuses a plane whose axes do not go east and north, with what helps."""
+    ways = turned_axes(crs)
+    if ways:
+        helps = HELP_LOCAL.format("eastings and northings") if is_local(crs) else helps.format(*(f"{way}ings" for way in ways))
+        refuse(f"the axes of the CRS {crs.name} go {' and '.join(ways)}, and not east and north: {helps}", "crs")
 
 
 def other_unit(axis: Any) -> list[str]:
@@ -90,7 +108,7 @@ def has_way(crs: Any) -> bool:
 
     try:
         Transformer.from_crs(crs, DEGREES)
-        return scale_of_crs(crs) is not None
+        return scales_of_crs(crs) is not None
     except ProjError:
         return False
 
@@ -179,16 +197,25 @@ def side_of(values: pandas.Series, is_point: NDArray[numpy.bool_]) -> pandas.Ser
     return pandas.Series(found)
 
 
-def scale_said(crs: Any, zone: str | None, middles: Mapping[str, tuple[float, float]]) -> list[str]:
-    """What is to be said of how much greater areas are on a grid, at the middle of each animal's fixes in metres. A grid on which
-    they are wrong by more than 1 % is refused; of zones the program has looked already."""
-    scale = None if zone or crs is None else scale_of_crs(crs)
-    if scale is None:
+def scales_said(crs: Any, zone: str | None, middles: Mapping[str, tuple[float, float]]) -> list[str]:
+    """What is to be said of how much greater areas are on a grid, and how much lengths differ by direction, at the middle of each
+    animal's fixes in metres. Refused is a grid on which these are wrong; of zones the program has looked already."""
+    scales_at = None if zone or crs is None else scales_of_crs(crs)
+    if scales_at is None:
         return []
-    worst, name = max(((scale(*middle), name) for name, middle in middles.items()), key=lambda pair: abs(pair[0] - 1))
-    text = f"areas of {name} are {abs(worst - 1) * 100:.2f} % too {'great' if worst > 1 else 'small'} on this grid"
-    if not isfinite(worst):
-        text = f"the fixes of {name} have no place on this grid"
-    if not abs(worst - 1) <= REFUSED:
-        refuse(f"{text}: take a zone or a reference system of the place", "scale")
-    return [text] if abs(worst - 1) > TOLD else []
+    scales = {name: scales_at(*middle) for name, middle in middles.items()}
+    lost = next((name for name, own in scales.items() if not all(map(isfinite, own))), None)
+    if lost is not None:
+        refuse(f"the fixes of {lost} have no place on this grid: {HELP_SCALE}", "scale")
+    return [line for what in Scales._fields for line in worst_said(what, {name: getattr(own, what) - 1 for name, own in scales.items()})]
+
+
+def worst_said(what: str, away: Mapping[str, float]) -> list[str]:
+    """What is to be said of the animal whose areas or lengths are most wrong; refused where that is too much."""
+    name, worst = max(away.items(), key=lambda pair: abs(pair[1]))
+    share = f"{abs(worst) * 100:.2f} %"
+    text = (f"lengths of {name} differ by up to {share} by direction on this grid" if what == "lengths" else
+            f"areas of {name} are {share} too {'great' if worst > 0 else 'small'} on this grid")
+    if abs(worst) > getattr(REFUSED, what):
+        refuse(f"{text}: {HELP_SCALE}", "scale")
+    return [text] if abs(worst) > getattr(TOLD, what) else []

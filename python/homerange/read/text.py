@@ -13,7 +13,7 @@ from typing import TYPE_CHECKING, Any, Mapping, NamedTuple, NoReturn, Sequence
 import numpy
 import pandas
 
-from ..errors import one_line, refuse
+from ..errors import fault_of_text, one_line, refuse
 from .cells import IANA, Cells, are_like_thousands, cells_of, inner_type, is_missing, is_time, zone_name
 from .systems import TITLES, TITLES_OF_DEGREES, columns_of_points, crs_named, is_local, options_of
 from .widths import missing_as_written
@@ -276,9 +276,10 @@ def refuse_text(columns: Sequence[Cells], text: Text, first: int | None) -> NoRe
     """Refuses the first cell that is no text."""
     for row, cells in enumerate(zip(*columns)):
         for column, cell in zip(text.columns, cells):
-            if any("\ud800" <= sign <= "\udfff" or sign == "\0" for sign in cell):
+            fault = fault_of_text(cell)
+            if fault is not None:
                 place = f"the title {cell!r}" if first is None else f"{column.title} is {cell!r}, which"
-                refuse(f"{place} is no text in UTF-8: mend it", "text", None if first is None else first + row + 1)
+                refuse(f"{place} {fault}: mend it", "text", None if first is None else first + row + 1)
     raise AssertionError("all cells are text")
 
 

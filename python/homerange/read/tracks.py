@@ -1,5 +1,4 @@
-"""Reads back what the program made of a table: its record, the tracks, and which record of the table is which fix. Names of files
-have no backslash, so one in the record stands for a sign that ends lines."""
+"""Reads back what the program made of a table: its record, the tracks, and which record of the table is which fix."""
 
 from __future__ import annotations
 
@@ -14,7 +13,7 @@ import numpy
 import pandas
 from numpy.typing import NDArray
 
-from ..errors import ProgramError
+from ..errors import ProgramError, one_line
 from ..record import Record, unescaped
 
 NAMED = re.compile("animal '(.*)' is named (.*)")  # what is said of an animal whose file has another name
@@ -42,13 +41,12 @@ def path_of_track(folder: str | os.PathLike[str], name: str) -> bytes:
 
 def read_tracks(folder: Path, record: Record) -> Whole:
     """The fixes of the tracks of a folder, which has this record."""
-    names = [*map(unescaped, record.tracks)]
-    tracks = [track_in(folder, name) for name in names]
+    tracks = [track_in(folder, name) for name in record.tracks]
     for (name, made), track in zip(record.tracks.items(), tracks):
         if len(track) != made.records:
             raise ProgramError(f"the program wrote {len(track)} fixes of {name}, and says {made.records}")
     numbers = numpy.concatenate(tracks) if tracks else numpy.empty((0, 3), dtype="int64")
-    return Whole(names, [len(track) for track in tracks], *numbers.T)
+    return Whole([*record.tracks], [len(track) for track in tracks], *numbers.T)
 
 
 def track_in(folder: Path, name: str) -> NDArray[numpy.int64]:
@@ -69,7 +67,8 @@ def rows_of(folder: Path, whole: Whole) -> NDArray[numpy.int64]:
     rows = numpy.flatnonzero((table["reason"] == "").to_numpy())
     second, part = (table[title].to_numpy()[rows] for title in ("second", "nanosecond"))
     files = table["file"].cat
-    places = numpy.array([*map({name: at for at, name in enumerate(whole.names)}.get, files.categories)], dtype="float64")
+    place_of = {name: at for at, name in enumerate(whole.names)}
+    places = numpy.array([place_of.get(unescaped(name)) for name in files.categories], dtype="float64")
     order = numpy.lexsort((part, second, places[files.codes.to_numpy()[rows]]))
     if len(rows) != len(whole.second) or (second[order] != whole.second).any():
         raise ProgramError("records.txt of the program has other fixes than its tracks")
@@ -77,17 +76,17 @@ def rows_of(folder: Path, whole: Whole) -> NDArray[numpy.int64]:
 
 
 def own_names(record: Record) -> dict[str, str]:
-    """The name that each animal has in its table, by that in files, of all that have another one. Names that differ in what is
-    escaped where they are said are not told apart, and stay those of files."""
-    known, found = {*record.tracks, *(name for name, _, _ in record.left)}, dict[str, str]()
+    """The name that each animal has in its table, in one line, by that in files, of all that have another one. Names that differ
+    in what is escaped are not told apart, and stay those of files."""
+    known = {*record.tracks, *(name for name, _, _ in record.left)}
+    found = {name: one_line(name) for name in known if one_line(name) != name}
     for said in map(NAMED.fullmatch, record.said):
-        if said and said[2] in known:
+        if said and unescaped(said[2]) in known:
             found[unescaped(said[2])] = said[1]
-    counts = Counter(found.get(name, name) for name in map(unescaped, known))
+    counts = Counter(found.get(name, name) for name in known)
     return {file: name for file, name in found.items() if counts[name] == 1}
 
 
 def left_out(record: Record, own: Mapping[str, str]) -> dict[tuple[str, str], int]:
     """How many fixes were left out, by the own name of the animal and the reason."""
-    files = ((unescaped(name), count, reason) for name, count, reason in record.left)
-    return {(own.get(name, name), reason): count for name, count, reason in files}
+    return {(own.get(name, name), reason): count for name, count, reason in record.left}

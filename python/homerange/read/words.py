@@ -10,7 +10,7 @@ from decimal import Decimal
 from numbers import Integral, Real
 from typing import Any, Callable, Iterable, Mapping
 
-from ..errors import BYTES, one_line, refuse, truth_of
+from ..errors import BYTES, fault_of_text, one_line, refuse, truth_of
 
 LONGEST_WORD = 2 ** 16  # bytes of a word; the system takes some more
 TAKEN = "is not a second or more in h, min or s, such as '24h', '30min' or '90s'"  # what a length of time is that is none
@@ -24,7 +24,23 @@ ELSEWHERE = {
     "months": "choose among the fixes, as by fixes[fixes['time'].dt.month.isin([5, 6])]",
     "hours": "choose among the fixes, as by fixes[fixes['time'].dt.hour < 6]",
     "mark": "fixes that are not used are left out and counted", "to": "until is the last moment",
-    "every_hours": "every takes hours too"}
+    "every_hours": "every takes hours too",
+    **dict.fromkeys(("levels", "by", "jobs", "progress"), "give it to home_range"),
+    **dict.fromkeys(("xy", "x", "y", "coords", "coordinates"), "easting and northing name columns of metres, and lon and lat those of degrees"),
+    "unin": "coordinates are in metres, and in no other unit", "unout": "areas are in hectares",
+    **dict.fromkeys(("sep", "delimiter", "separator", "dec", "decimal", "sheet", "skip", "skiprows"),
+                    "read a file of another form by pandas before, as by pandas.read_csv, and give the data frame"),
+    **dict.fromkeys(("quiet", "verbose"), "warnings.simplefilter('ignore', homerange.HomeRangeInfo) has what was taken not shown")}
+# What others call what an option, or an argument of home_range, is here.
+OURS = {
+    "animal": "id ids individual individuals individual_id animal_id animals track_id burst", "argos_class": "lc argos_lc",
+    "by": "group groups group_by groupby season period", "crs": "crs_code epsg srid srs proj projection proj4string",
+    "every": "interval resolution", "jobs": "cores n_jobs threads workers", "lat": "latitude", "levels": "level percent percents isopleths",
+    "lon": "longitude long lng", "max_dop": "hdop pdop dop_max", "max_speed": "speed vmax", "na": "na_values na_strings",
+    "sensor": "sensors sensor_type", "since": "start begin from_date start_date", "time": "date datetime timestamp times",
+    "time_format": "format date_format", "tz": "timezone time_zone", "unit": "units", "until": "end to_date end_date",
+    "zone": "utm utm_zone zone_number"}
+ELSEWHERE.update({name: f"here it is {own}" for own, names in OURS.items() for name in names.split()})
 
 
 def text_of(value: Any, option: str) -> str:
@@ -40,12 +56,18 @@ def number_of(value: Any, option: str) -> str:
     """A number that is not negative, as text or by all its digits, without an exponent."""
     is_odd = isinstance(value, bool) or isinstance(value, str) and not NUMBER.fullmatch(value)
     try:
-        number = math.nan if is_odd else float(value)
+        number = math.nan if is_odd else plain_number(value)
     except (TypeError, ValueError, OverflowError):
         number = math.nan
     if not 0 <= number < math.inf:
-        refuse(f"{option} is {value!r} and not a number from 0")
+        unit = " of metres a second" if option == "max_speed" else ""
+        refuse(f"{option} is {value!r} and not a number{unit} from 0")
     return value if isinstance(value, str) else digits_of(number)
+
+
+def plain_number(value: Any) -> float:
+    """A number as Python has it: of one of numpy's, of whatever width, the digits that it is written with."""
+    return float(str(value)) if type(value).__module__ == "numpy" else float(value)
 
 
 def digits_of(number: float) -> str:
@@ -56,9 +78,9 @@ def digits_of(number: float) -> str:
 
 def count_of(value: Any, option: str) -> str:
     """A whole number from 0."""
-    if not isinstance(value, int) or isinstance(value, bool) or not 0 <= value < 2 ** 40:
+    if not isinstance(value, Integral) or isinstance(value, bool) or not 0 <= int(value) < 2 ** 40:
         refuse(f"{option} is {value!r} and not a number from 0")
-    return str(value)
+    return str(int(value))
 
 
 def length_of(value: Any, option: str) -> str:
@@ -84,7 +106,7 @@ def seconds_of(value: Any) -> float:
     is_length = type(value).__name__ == "timedelta64"
     try:
         seconds = value / type(value)(1, "s") if is_length else value
-        return 0.0 if isinstance(value, (bool, str)) else float(seconds) if is_length else float(seconds) * 3600
+        return 0.0 if isinstance(value, (bool, str)) else float(seconds) if is_length else plain_number(seconds) * 3600
     except (TypeError, ValueError, OverflowError):
         return 0.0
 
@@ -118,7 +140,7 @@ def word_of(word: Any, option: str) -> str:
         return str(int(word))
     if not isinstance(word, Real) or isinstance(word, bool) or not math.isfinite(word):
         refuse(f"{option}: {word!r} is no word: a text is wanted")
-    return digits_of(float(str(word)) if type(word).__module__ == "numpy" else float(word))  # of 32 bits by their own digits
+    return digits_of(plain_number(word))
 
 
 def columns_of(value: Any, option: str) -> str:
@@ -151,12 +173,17 @@ FORMS: dict[str, Callable[[Any, str], str]] = {
 FLAGS = ("skip_unnamed",)
 
 
-def words_of_options(options: Mapping[str, Any]) -> list[str]:
-    """Options by their names as words of the program's command line; None is no wish."""
+def check_names(options: Iterable[str]) -> None:
+    """Refuses options that there are not."""
     unknown = sorted({*options}.difference(FORMS, FLAGS))
     if unknown:
         name = unknown[0]
         refuse(f"there is no option {name}: {ELSEWHERE[name]}" if name in ELSEWHERE else f"there is no option {name}")
+
+
+def words_of_options(options: Mapping[str, Any]) -> list[str]:
+    """Options by their names as words of the program's command line; None is no wish."""
+    check_names(options)
     given = {name: value for name, value in options.items() if value is not None}
     flags = [f"--{in_program(name)}" for name in FLAGS if truth_of(given.pop(name, False), name)]
     return [*flags, *(f"--{in_program(name)}={said(FORMS[name](value, name), name)}" for name, value in given.items())]
@@ -169,8 +196,7 @@ def in_program(name: str) -> str:
 
 def said(text: str, what: str) -> str:
     """A text that a word of a command line can be."""
-    try:
-        is_word = "\0" not in text and len(text.encode("utf-8")) <= LONGEST_WORD
-    except UnicodeEncodeError:
-        is_word = False
-    return text if is_word else refuse(f"{what} is {text!r}, which the program cannot be told: is it UTF-8, and short?")
+    fault = fault_of_text(text)
+    if fault is None and len(text.encode("utf-8")) > LONGEST_WORD:
+        fault = f"has more than {LONGEST_WORD} bytes"
+    return text if fault is None else refuse(f"{what} is {text!r}, which the program cannot be told, since it {fault}")

@@ -13,9 +13,10 @@ from pathlib import Path
 from typing import Any, Callable, Iterable, NamedTuple, Sequence, TextIO
 
 from ..about import BESIDE, NO_COMMIT, About, Words, export_of, now, write_about
-from ..errors import FAULTS, UNPRINTABLE, ProgramError, ReportError, one_line, refuse
+from ..errors import (
+    FAULTS, UNPRINTABLE, FileError, ProgramError, ReportError, check_file, check_folder, check_place, one_line, refuse)
 from ..program import CLONE, MOST_ANIMALS, Program, checksum_of, steps_of, workers
-from ..record import Record, difference_from_record, record_in
+from ..record import Record, difference_from_record, read_record, record_in
 from ..report import TEXT, Animal, Lines, Reader, Report, Table, check_end, overlaps_of
 
 SOURCES = ["crates.txt", "HANDLES", *(f":(glob)crates/*/{part}/**" for part in ("src", "specs", "proofs")), "python/homerange",
@@ -56,7 +57,11 @@ def check_names(names: Iterable[str]) -> None:
 
 
 def check_record(folder: Path, record: Record) -> None:
-    """Refuses tracks that are not those of their record."""
+    """Refuses tracks that are not those of their record, and those whose names no list of checksums can have."""
+    odd = next(filter(UNPRINTABLE.search, record.tracks), None)
+    if odd is not None:
+        refuse(f"the name of the animal {odd} has a control character or a separator of lines, which the names of files of evidence "
+               "cannot have: rename it in its table", "name")
     files = {path.stem: path for path in folder.iterdir() if path.name.endswith(".csv")}
     for name in sorted({*files}.symmetric_difference(record.tracks)):
         what = "is not among the tracks" if name in record.tracks else "was not made by it"
@@ -245,8 +250,8 @@ def write_sums(folder: Path) -> None:
         file.writelines(f"{checksum_of(folder / name)}  {name}\n" for name in names)
 
 
-def copy_tracks(paths: Sequence[Path], folder: Path) -> None:
-    """Copies tracks, and their record where all of them are of one."""
+def copy_files(paths: Sequence[Path], folder: Path) -> None:
+    """Copies tracks."""
     (folder / TRACKS).mkdir()
     names: dict[str, Path] = {}
     for path in paths:
@@ -255,18 +260,32 @@ def copy_tracks(paths: Sequence[Path], folder: Path) -> None:
         if not path.name.endswith(".csv"):
             refuse(f"{path} is no track: its name does not end in .csv", "name")
         shutil.copyfile(path, folder / TRACKS / path.name)
+
+
+def copy_tracks(paths: Sequence[Path], folder: Path) -> None:
+    """Copies tracks, and the record beside them where all of them are of one."""
+    copy_files(paths, folder)
     folders = {path.parent.resolve() for path in paths}
     records = [each / "split.txt" for each in folders if (each / "split.txt").is_file()]
     if records and len(folders) > 1:
         refuse("the tracks are of several folders of which one has a record of its split: take those of one", "text")
     for record in records:
+        check_all(record, {path.name for path in paths})
         shutil.copyfile(record, folder / TRACKS / "split.txt")
+
+
+def check_all(record: Path, names: Iterable[str]) -> None:
+    """Refuses some files alone of the tracks of a record, whose others lie beside it."""
+    others = (f"{name}.csv" for name in sorted({*read_record(record).tracks}))
+    odd = next((name for name in others if name not in names and record.with_name(name).is_file()), None)
+    if odd is not None:
+        refuse(f"{record.with_name(odd)} is of the same split, and was not named: take all tracks of the folder {record.parent}", "text")
 
 
 def tracks_at(path: Path) -> list[Path]:
     """A file, or the tracks of a folder."""
     if not path.is_dir():
-        return [path]
+        return [check_file(path)]
     return sorted((each for each in path.iterdir() if each.name.endswith(".csv")), key=os.fsencode)
 
 
@@ -277,7 +296,11 @@ def new_folder(into: Path, fill: Callable[[Path], object]) -> None:
     part = into.with_name(f"{into.name}.part")
     if part.exists():
         refuse(f"{part} is there: another call is at work, or was killed and left it to be removed", "text")
-    part.mkdir()
+    check_place(into)
+    try:
+        part.mkdir()
+    except OSError as fault:
+        raise FileError(one_line(f"{into}: {fault.strerror}")) from fault
     try:
         fill(part)
         write_sums(part)
@@ -317,7 +340,7 @@ def write_herd_evidence(into: str | os.PathLike[str], out: Path, program: Progra
     def lines(path: Path) -> list[str]:
         return path.read_text(encoding="utf-8", errors="surrogateescape").split("\n")[:-1]
 
-    groups = sorted((out / "groups").iterdir())
+    groups = sorted((check_folder(out) / "groups").iterdir())
     paths = [Path(line) for group in groups for line in lines(group)]
     sums = [line.split(" ")[0] for group in groups for line in lines(out / "sums" / group.name)]
     if lines(out / "program")[0].split(" ")[0] != program.checksum:

@@ -4,7 +4,9 @@ dates are those of a run that is not known. Wants geopandas."""
 from __future__ import annotations
 
 import os
+import shutil
 import sqlite3
+import tempfile
 from contextlib import closing, contextmanager
 from itertools import chain, islice
 from pathlib import Path
@@ -14,12 +16,14 @@ import numpy
 import pandas
 from pandas.api.types import is_integer_dtype as is_whole
 
-from ..errors import FileError, check_place, files_as_said, one_line, path_of, refuse
+from ..arguments import says_ours
+from ..errors import FileError, check_place, fault_of_text, files_as_said, one_line, path_of, truth_of
 from ..program import PACKAGE
 from ..ranges.home import HomeRanges, check_ranges
 from ..read.reading import has_calendar, tell, times_of
 from ..units import UNITS
 from ..zones import code_of_crs
+from .replace import check_ending, refuse_other_layers
 
 if TYPE_CHECKING:
     import geopandas
@@ -57,6 +61,19 @@ def without_date() -> Iterator[None]:
         os.environ.pop("OGR_CURRENT_DATE")
         if before is not None:
             os.environ["OGR_CURRENT_DATE"] = before
+
+
+@contextmanager
+def plain_path(path: Path) -> Iterator[Path]:
+    """A path in UTF-8, as GDAL takes them, of a file that comes to another one's place where that is none."""
+    if fault_of_text(os.path.abspath(path)) is None:
+        yield path
+        return
+    with tempfile.TemporaryDirectory(prefix="homerange-") as folder:
+        own = Path(folder, "ranges.gpkg")
+        yield own
+        if own.is_file():
+            shutil.copyfile(own, path)
 
 
 def placed(layer: geopandas.GeoDataFrame) -> geopandas.GeoDataFrame:
@@ -157,33 +174,38 @@ def put_layers(ranges: HomeRanges, path: Path) -> list[str]:
     none."""
     polygons = polygons_of(ranges)
     has_area = polygons["corners"] > 2
-    flat = {level: polygons.loc[~has_area & (polygons["level"] == level), "animal"] for level in ranges.levels}
+    names = polygons["animal"] + " " + polygons["group"] if ranges.groups else polygons["animal"]
+    flat = {level: names[~has_area & (polygons["level"] == level)] for level in ranges.levels}
     written = ["ranges"] * bool(has_area.any()) + ["fixes"] * ranges.has_fixes
     open(path, "ab").close()  # what the system says where it cannot be written GDAL would not say
     path.unlink()
-    with without_date():
+    with plain_path(path) as own, without_date():
         if "ranges" in written:
-            placed(polygons[has_area]).to_file(path, driver="GPKG", layer="ranges")
+            placed(polygons[has_area]).to_file(own, driver="GPKG", layer="ranges")
         if ranges.tracks is not None:
-            write_fixes(fixes_of(ranges, ranges.tracks), ranges.crs, path)
-    if written:
-        write_styles(path, written)
+            write_fixes(fixes_of(ranges, ranges.tracks), ranges.crs, own)
+        if written:
+            write_styles(own, written)
     return [f"not in {path.name}, since they have no area at {level} %: {', '.join(dict.fromkeys(names))}"
             for level, names in flat.items() if len(names)]
 
 
-def write_layers(ranges: HomeRanges, path: str | os.PathLike[str]) -> None:
-    """Writes a GeoPackage for a GIS, in place of what is there: the layer ``ranges``, with a polygon for each animal and level
+@says_ours
+def write_layers(ranges: HomeRanges, path: str | os.PathLike[str], *, overwrite: bool = False) -> None:
+    """Writes a GeoPackage for a GIS, in place of one that was written before: the layer ``ranges``, with a polygon for each animal and level
     that has an area (``animal``, ``level``, ``fixes``, ``kept``, ``corners``, ``hectares``, ``first`` and ``last`` in UTC, and
     ``unit``); the layer ``fixes`` (``animal``, ``n``, ``time``), where they are known; and how QGIS draws both. Seconds that have
     no date stand there as whole numbers. Ranges by groups have a column ``group`` in both. Without a reference system it is an
-    undefined one of metres. Two runs write the same bytes. Which polygons have no area is said in warnings. Wants geopandas."""
+    undefined one of metres. Two runs write the same bytes. Which polygons have no area is said in warnings. A file that is there
+    and has other layers, or is none of write_layers, is refused (FileError), unless ``overwrite`` says that it goes. Wants
+    geopandas."""
     check_ranges(ranges)
-    file = check_place(path_of(path, "path"))
-    if file.suffix != ".gpkg":
-        refuse(f"path={str(path)!r}: a name that ends in .gpkg is wanted")
+    file, is_over = check_place(path_of(path, "path")), truth_of(overwrite, "overwrite")
+    check_ending(file, ".gpkg")
     try:
         with files_as_said():
+            if not is_over:
+                refuse_other_layers(file)
             said = put_layers(ranges, file)
     except Exception as fault:
         if type(fault).__module__.partition(".")[0] not in WRITERS:

@@ -6,22 +6,25 @@ from typing import TYPE_CHECKING, Any, Iterable, Literal, Sequence, overload
 
 import pandas
 
+from ..arguments import says_ours
 from ..errors import refuse, truth_of
 from ..units import UNITS
 from .formats import Clock
-from .page_curves import layout
-from .page_text import system_of
-from .plot_map import FOOT, Map, frame_of, rings_over, shapes_of
+from .plot_map import FOOT, Map, frame_of, rings_over, said_of_unseen, shapes_of
 from .plot_style import (
     EDGE, LEAST_TEXT, LEVELS, SMALL, Drawn, add_key, area_axis, area_text, drawn_animals, halo, key_room, label,
     number_axes,
 )
 from ..ranges.home import HomeRanges, whole_numbers
+from ..read.reading import tell
+from ..zones import text_of_crs
 
 if TYPE_CHECKING:
     from matplotlib.axes import Axes
 
 PLAIN = "rectilinear"  # what matplotlib calls plain axes
+# Up to how many animals have how many panels beside each other.
+COLUMNS = ((1, 1), (2, 2), (3, 3), (12, 4), (40, 6), (10 ** 9, 10))
 AROUND = (1.25, 0.9)  # inches of a new figure around its axes, across and up
 
 
@@ -49,11 +52,16 @@ def new_axes(width: float, height: float, texts: Sequence[str], animals: int) ->
     return pyplot.subplots(figsize=size, dpi=150, layout="constrained")[1]
 
 
+def columns_of(animals: int) -> int:
+    """How many panels stand beside each other."""
+    return next(columns for most, columns in COLUMNS if animals <= most)
+
+
 def new_panels(animals: Sequence[Drawn], ratio: float) -> list[Any]:
     """Axes for each animal in a new figure, as many beside each other as the page has."""
     from matplotlib import pyplot
 
-    columns = layout(len(animals))[0]
+    columns = columns_of(len(animals))
     rows = -(-len(animals) // columns)
     width = max(11.0 / columns, 1.3)
     figure, grid = pyplot.subplots(
@@ -143,6 +151,7 @@ def plot_curve(
 ) -> list[Axes]: ...
 
 
+@says_ours
 def plot_curve(
     ranges: HomeRanges, ax: Axes | None = None, *, animals: Iterable[str] | str | None = None, by: str = "fix",
     share: bool = False, facets: bool = False, colours: Any = None,
@@ -211,6 +220,16 @@ def curve_panels(
     return panels
 
 
+def check_over_name(over: Any, name: Any, facets: bool) -> None:
+    """Refuses what is no name of a boundary, and one that nothing would show."""
+    if name is not None and not isinstance(name, str):
+        refuse(f"over_name={name!r} is no text")
+    if name and over is None:
+        refuse("over_name is the name of no boundary: give its shape as over")
+    if name and facets:
+        refuse("over_name stands in a key, which facets do not have: leave it out")
+
+
 def levels_of_map(level: Any) -> list[int]:
     """The levels of a map, from the highest on."""
     return sorted({*whole_numbers(level, 1, 100, "level")}, reverse=True)
@@ -218,7 +237,7 @@ def levels_of_map(level: Any) -> list[int]:
 
 def title_of(ranges: HomeRanges, levels: Sequence[int]) -> str:
     """What a map shows, and the name of its reference system."""
-    text = system_of(ranges.crs, [next(iter(ranges.corners().values()))[0]]).text
+    text = "reference system not known" if ranges.crs is None else text_of_crs(ranges.crs)
     return f"Minimum convex polygons, {', '.join(map(str, levels))} % of the fixes\n{text}"
 
 
@@ -241,7 +260,7 @@ def map_handles(ranges: HomeRanges, drawn: Sequence[Drawn], levels: Sequence[int
 @overload
 def plot_ranges(
     ranges: HomeRanges, ax: Axes | None = None, level: int | Iterable[int] = 100, *,
-    animals: Iterable[str] | str | None = None, fixes: bool = True, over: Any = None, over_name: str = "boundary",
+    animals: Iterable[str] | str | None = None, fixes: bool = True, over: Any = None, over_name: str | None = None,
     facets: Literal[False] = False, colours: Any = None,
 ) -> Axes: ...
 
@@ -249,13 +268,14 @@ def plot_ranges(
 @overload
 def plot_ranges(
     ranges: HomeRanges, ax: None = None, level: int | Iterable[int] = 100, *, animals: Iterable[str] | str | None = None,
-    fixes: bool = True, over: Any = None, over_name: str = "boundary", facets: Literal[True], colours: Any = None,
+    fixes: bool = True, over: Any = None, over_name: str | None = None, facets: Literal[True], colours: Any = None,
 ) -> list[Axes]: ...
 
 
+@says_ours
 def plot_ranges(
     ranges: HomeRanges, ax: Axes | None = None, level: int | Iterable[int] = 100, *,
-    animals: Iterable[str] | str | None = None, fixes: bool = True, over: Any = None, over_name: str = "boundary",
+    animals: Iterable[str] | str | None = None, fixes: bool = True, over: Any = None, over_name: str | None = None,
     facets: bool = False, colours: Any = None,
 ) -> Axes | list[Axes]:
     """Draws each animal's polygons at a level, or at several, over its fixes where they are known: a map with a bar of
@@ -264,23 +284,27 @@ def plot_ranges(
     ax, animals, facets, colours: as in plot_curve.
     level: one, or several: the kinds of lines are those of the page, the same for all animals.
     fixes: whether fixes are drawn; of those that would cover each other one is.
-    over, over_name: a boundary, as of a reserve, as share_inside takes it, and what it is called. Where it is more than
-        six times as wide as all ranges, the map shows the ranges.
+    over, over_name: a boundary, as of a reserve, as share_inside takes it, and what the key calls it; if left out,
+        'boundary'. Where it is more than six times as wide as all ranges, the map shows the ranges, and it is said if no edge of
+        the boundary is on it.
 
     Answers as plot_curve does. The numbers at polygons are those of the key, which has the area of the highest level.
     """
     fixes, facets = truth_of(fixes, "fixes"), truth_of(facets, "facets")
+    check_over_name(over, over_name, facets)
     check_axes(ax, facets)
     levels, drawn = levels_of_map(level), drawn_animals(ranges, animals, colours)
     shapes, rings = shapes_of(ranges, drawn, levels, fixes), rings_over(ranges, over)
     if facets:
-        return map_panels(ranges, drawn, shapes, levels)
-    handles = map_handles(ranges, drawn, levels, None if over is None else over_name)
+        return map_panels(ranges, drawn, shapes, levels, rings)
+    handles = map_handles(ranges, drawn, levels, None if over is None else over_name or "boundary")
     size = None if ax is None else size_of(ax)
     frame = frame_of(ranges, shapes, rings, size)
     texts = [handle.get_label() for handle in handles]
     axes = new_axes(frame.width, frame.height + FOOT, texts, len(drawn)) if ax is None else ax
     draw_map(Map(axes, frame), shapes, drawn, rings)
+    west, south, east, north = frame.ground()
+    tell(said_of_unseen(rings, (west, south - FOOT / frame.scale, east, north)))
     axes.set_title(title_of(ranges, levels), fontsize=9, loc="left")
     number_axes(axes)
     add_key(axes, handles, len(drawn), frame.width / 72, frame.height / 72)
@@ -302,14 +326,15 @@ def draw_map(own: Map, shapes: Sequence[Any], drawn: Sequence[Drawn], rings: Seq
     own.draw_scale()
 
 
-def map_panels(ranges: HomeRanges, drawn: Sequence[Drawn], shapes: Sequence[Any], levels: Sequence[int]) -> list[Any]:
+def map_panels(ranges: HomeRanges, drawn: Sequence[Drawn], shapes: Sequence[Any], levels: Sequence[int],
+               rings: Sequence[Any]) -> list[Any]:
     """A map for each animal, with its number, its name and its area above, and a bar of scale of its own."""
     panels = new_panels(drawn, 0.9)
     few = len(drawn) <= 12
-    side = 72 * panels[0].figure.get_figwidth() / layout(len(drawn))[0] - 12
+    side = 72 * panels[0].figure.get_figwidth() / columns_of(len(drawn)) - 12
     for axes, animal, shape in zip(panels, drawn, shapes):
-        frame = frame_of(ranges, [shape], [], (side, 0.8 * side))
-        draw_map(Map(axes, frame), [shape], [animal], [])
+        frame = frame_of(ranges, [shape], rings, (side, 0.8 * side))
+        draw_map(Map(axes, frame), [shape], [animal], rings)
         area = area_text(ranges, animal.name, levels[0])
         axes.set_title(f"{animal.number} {label(animal.name)}, {area}", fontsize=9 if few else LEAST_TEXT, loc="left",
                        color=animal.colour)

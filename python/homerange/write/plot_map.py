@@ -5,16 +5,16 @@ from __future__ import annotations
 
 from typing import Any, Sequence
 
-from .drawing import step_of
-from .page import LEAST, rings_of
-from .page_map import (
-    STYLES, Box, Frame, Numbers, Point, Shape, box_of, box_of_shapes, corners, length_text, side, thinned,
+from .boundary import Point, rings_of
+from .plot_frame import (
+    STYLES, Box, Frame, Numbers, Shape, box_of, box_of_shapes, corners, length_text, side, step_of, thinned,
 )
 from ..ranges.home import HomeRanges
 from ..ranges.reserve import boundary_of
 from .plot_style import ALONE, EDGE, LEVELS, SMALL, Drawn, halo
 
 WIDE = 2500.0  # metres of a map from which on its axes are in kilometres
+LEAST = {"m": 100.0, "dm": 10.0}  # metres that a map is wide at least, whose fixes may all lie in one place
 CELL = 1.0  # points: of fixes that would cover each other one is drawn
 MOST_DOTS = 20_000
 WIDTH, LOWEST, HIGHEST = 480.0, 250.0, 560.0  # points of the axes of a new figure
@@ -35,6 +35,17 @@ def shapes_of(ranges: HomeRanges, drawn: Sequence[Drawn], levels: Sequence[int],
 def rings_over(ranges: HomeRanges, over: Any) -> list[list[Point]]:
     """The rings of a boundary, in the reference system of the ranges."""
     return [] if over is None else rings_of(boundary_of(over, ranges.crs, ranges.box))
+
+
+def said_of_unseen(rings: Sequence[Sequence[Point]], view: Box) -> list[str]:
+    """What is said of a boundary of which no edge is on a map that shows so much of the ground."""
+    from shapely import geometry
+
+    seen, shapes = geometry.box(*view), [geometry.Polygon(ring) for ring in rings]
+    if not rings or any(shape.exterior.intersects(seen) for shape in shapes):
+        return []
+    is_within = sum(shape.contains(seen) for shape in shapes) % 2 == 1  # a ring within another is a hole
+    return [f"no edge of the boundary is on this map, which lies {'within it' if is_within else 'outside of it'}"]
 
 
 def box_drawn(shapes: Sequence[Shape], rings: Sequence[Sequence[Point]], least: float) -> Box:

@@ -7,7 +7,7 @@ from math import ceil
 from typing import Any, Iterable, Mapping, NamedTuple, Sequence
 
 from ..errors import BYTES, one_line, refuse
-from ..ranges.home import HomeRanges, check_ranges
+from ..ranges.home import HomeRanges, check_ranges, refuse_animal
 from ..units import UNITS
 from .formats import with_sign
 
@@ -39,8 +39,10 @@ def drawn_animals(ranges: HomeRanges, animals: Iterable[str] | str | None, colou
         refuse(f"animals={animals!r} are no names")
     wanted = ranges.animals if animals is None else [animals] if isinstance(animals, str) else list(animals)
     missing = [name for name in wanted if not isinstance(name, str) or name not in ranges.animals]
-    if missing or not wanted:
-        refuse(f"there is no animal {missing[0]!r}" if wanted else "animals: there is none")
+    if not wanted:
+        refuse("animals: there is none")
+    if missing:
+        refuse_animal(missing[0], ranges.animals)
     chosen = [Drawn(number, name, COLOURS[(number - 1) % len(COLOURS)])
               for number, name in enumerate(ranges.animals, 1) if name in wanted]
     named = [*colours] if isinstance(colours, Mapping) else []

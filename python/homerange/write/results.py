@@ -1,5 +1,5 @@
-"""What is made of a folder with report.txt, its tracks and evidence.txt: tables, layers and page, and pictures. All but the
-pictures follows from these files and from boundary.csv, where there is one, so that it can be made again."""
+"""What is made of a folder with report.txt, its tracks and evidence.txt: tables and page by homerange-page, layers, and pictures. All
+but the pictures follows from these files and from boundary.csv, where there is one, so that it can be made again."""
 
 from __future__ import annotations
 
@@ -10,17 +10,18 @@ from pathlib import Path
 from typing import TYPE_CHECKING, NoReturn
 
 from ..about import About, Words, read_about
-from ..errors import HomeRangeError, one_line, refuse
+from ..errors import HomeRangeError, ProgramError, one_line, refuse
+from ..program import Program, find_page_program
 from ..record import Record, difference_from_record, record_in
 from ..report import Report, read
-from ..zones import system_of_text, text_of_crs
+from ..zones import system_of_text
 from .evidence import ABOUT, REPORT, TRACKS
+from .page import PAGE, area_difference, make_page, options_of
 
 if TYPE_CHECKING:
     from ..ranges.home import HomeRanges
 
-BOUNDARY, LAYERS, PAGE = "boundary.csv", "ranges.gpkg", "report.html"
-TABLES = ("summary.csv", "animals.csv", "overlaps.csv")
+LAYERS = "ranges.gpkg"
 NOT_THERE = 3  # the status of a call that lacks something
 
 
@@ -30,14 +31,6 @@ def crs_of(words: Words, record: Record | None) -> str | None:
     if words.crs is not None:
         return system_of_text(words.crs)
     return record.system if record else None
-
-
-def words_beside(record: Record | None, ranges: HomeRanges, words: Words) -> Words:
-    """The words of a page, with the reference system and the shift of its ranges where their record has not these."""
-    own = text_of_crs(ranges.crs) if ranges.crs is not None else None
-    has_own = record is not None and own == record.system_text
-    has_shift = record is not None and record.shift == ranges.shift
-    return words._replace(crs=None if has_own else own, shift=(0, 0) if has_shift else ranges.shift)
 
 
 def read_ranges(folder: Path, about: About, program: str | None, report: Report | None = None) -> HomeRanges:
@@ -61,22 +54,25 @@ def read_ranges(folder: Path, about: About, program: str | None, report: Report 
     return ranges
 
 
+def make_files(folder: Path, ranges: HomeRanges, about: About) -> None:
+    """Has homerange-page write tables and page."""
+    program = Program("", about.program, about.checksum)
+    make_page(find_page_program(ranges.named), folder, options_of(about.words, about.day(), program, area_difference(ranges)))
+
+
+def make_layers(folder: Path, ranges: HomeRanges) -> list[str]:
+    """Writes layers where geopandas is there; answers what there is to say of them."""
+    if not find_spec("geopandas"):
+        return []
+    from .layers import put_layers
+
+    return put_layers(ranges, folder / LAYERS)
+
+
 def write_results(folder: Path, ranges: HomeRanges, about: About) -> list[str]:
-    """Writes tables, page and, where geopandas is there, layers; answers what there is to say of them."""
-    from .output import write_tables
-    from .page import Head, page_of, read_rings
-
-    said: list[str] = []
-    write_tables(ranges, folder)
-    if find_spec("geopandas"):
-        from .layers import put_layers
-
-        said = put_layers(ranges, folder / LAYERS)
-    boundary = folder / BOUNDARY
-    rings = read_rings(boundary) if boundary.is_file() else None
-    head = Head(about.words, rings, about.words.clock or "UTC", about.day(), about.program, about.checksum)
-    (folder / PAGE).write_bytes(page_of(ranges, head).encode("utf-8", errors="replace"))
-    return said
+    """Writes tables, page and layers; answers what there is to say of them."""
+    make_files(folder, ranges, about)
+    return make_layers(folder, ranges)
 
 
 def main() -> None:
@@ -84,16 +80,19 @@ def main() -> None:
     the records say, has not what is needed."""
     folder, program = Path(), sys.argv[1]
     try:
-        from .output import write_tables
-
+        find_page_program(program)
+    except ProgramError as fault:
+        refuse_here(str(fault))
+    try:
         about = read_about(folder / ABOUT)
         record = record_in(folder / TRACKS)
         text = about.words.crs or record and record.system_text
         ranges = read_ranges(folder, about, program)
+        make_files(folder, ranges, about)
         if text and crs_of(about.words, record) is None:
-            write_tables(ranges, folder)
+            (folder / PAGE).unlink()
             refuse_here(f"the reference system '{text}' has no code and no definition, so they cannot be made again")
-        write_results(folder, ranges, about)
+        make_layers(folder, ranges)
     except ImportError as fault:
         refuse_here(f"to make them again {fault.name} is needed: apt-get install python3-geopandas")
     except (HomeRangeError, OSError, ValueError, csv.Error) as fault:

@@ -8,7 +8,7 @@ skip_without_program <- function() skip_if_not(has_program(), "the program homer
 
 # Where the second program is there, the first is too.
 skip_without_split <- function() {
-  skip_if(inherits(try(split_program(), silent = TRUE), "try-error"), "the program homerange-split")
+  skip_if(inherits(try(c(split_program(), page_program()), silent = TRUE), "try-error"), "the programs beside homerange")
 }
 
 # As it is loaded lubridate asks for the zone of times, and where none is set the system may not know one.
@@ -73,7 +73,7 @@ at_end <- function(call, frame) do.call(on.exit, list(call, add = TRUE, after = 
 # A program that does as this script says in the place of homerange, in a folder that is gone when the test ends.
 local_program <- function(script, frame = parent.frame()) {
   folder <- local_folder(frame)
-  file.symlink(split_program(), file.path(folder, "homerange-split"))
+  file.symlink(c(split_program(), page_program()), file.path(folder, c("homerange-split", "homerange-page")))
   path <- file.path(folder, "program")
   writeLines(c("#!/bin/sh", script), path)
   Sys.chmod(path, "755")
@@ -90,8 +90,18 @@ local_folder <- function(frame = parent.frame()) {
   folder
 }
 
+# Ranges that were changed, as none are in a session.
+changed_ranges <- function(ranges, change) structure(change(unclass(ranges)), class = class(ranges))
+
 # Fixes with another column.
 transform_fixes <- function(fixes, column, value) {
   fixes[[column]] <- value
   fixes
+}
+
+# Overlaps without the titles of their rows and columns, to compare with counts.
+counts_of_overlap <- function(...) {
+  found <- homerange_overlap(...)
+  names(dimnames(found)) <- NULL
+  found
 }

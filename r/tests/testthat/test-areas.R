@@ -60,5 +60,5 @@ test_that("one fix, two equal fixes and two fixes have no area", {
   expect_equal(areas$kept, c(1, 1, 1, 2, 1, 2))
   expect_equal(homerange_corners(ranges)$one, cbind(easting = 5, northing = 6))
   expect_equal(homerange_corners(ranges)$two, cbind(easting = c(1, 4), northing = c(1, 5)))
-  expect_equal(homerange_overlap(ranges)["one", ], c(one = 1, same = 0, two = 0))
+  expect_equal(counts_of_overlap(ranges)["one", ], c(one = 1, same = 0, two = 0))
 })

@@ -144,16 +144,8 @@ test_that("a name is no formula in tables", {
   first <- function(table) unique(sub(",.*", "", readLines(file.path(folder, table))[-1]))
   for (table in c("summary.csv", "animals.csv", "overlaps.csv")) expect_identical(first(table), cells)
   expect_identical(readLines(file.path(folder, "overlaps.csv"), 1), paste(c("fixes_of", cells), collapse = ","))
-  expect_setequal(cell_text(cells), names)
   expect_true("animal,=1+1,fixes,9" %in% readLines(file.path(folder, "report.txt")))
   expect_false(any(grepl("did not hold", verified(folder))))
-})
-
-test_that("each text has one cell", {
-  texts <- c("=1", "+1", "-1", "@a", "\ta", "\ra", "'", "''", "'=1", "a", "", " =1", "a'", "1", "\u00e4=")
-  cells <- c("'=1", "'+1", "'-1", "'@a", "'\ta", "'\ra", "''", "'''", "''=1", "a", "", " =1", "a'", "1", "\u00e4=")
-  expect_identical(shown_cell(texts), cells)
-  expect_identical(cell_text(cells), texts)
 })
 
 test_that("a definition of a UTM zone is refused, and its code is taken", {
@@ -185,7 +177,7 @@ test_that("the log of a program that was built here goes with it", {
   built <- local_folder()
   program <- file.path(built, "homerange")
   file.copy(homerange_program(), program)
-  file.symlink(split_program(), file.path(built, "homerange-split"))
+  file.symlink(c(split_program(), page_program()), file.path(built, c("homerange-split", "homerange-page")))
   writeLines("rt: homerange proved", file.path(built, "build.log"))
   old <- options(homerange.program = program)
   on.exit(options(old), add = TRUE, after = FALSE)
@@ -218,19 +210,6 @@ test_that("its tables are those worked out by hand", {
   expect_identical(readLines(file.path(folder, "overlaps.csv")), c(
     "fixes_of,old_boar,one,vixen", "old_boar,1.0,0.0,0.25", "one,1.0,1.0,1.0", "vixen,0.5,0.0,1.0"
   ))
-})
-
-test_that("numbers are written with the fewest decimals", {
-  expect_identical(decimal_text(c(0, 1, 9, 10, 123400000, 99999, NA), 5), c("0.0", "1e-05", "9e-05", "0.0001", "1234.0", "0.99999", ""))
-  expect_identical(decimal_text(c(1, 5000, 12345678), 4), c("0.0001", "0.5", "1234.5678"))
-  expect_identical(hectares_text(list(unit = "dm"), c(1, 500, 4000000, 2000001)), c("5e-07", "0.00025", "2.0", "1.0000005"))
-})
-
-test_that("tables have times in UTC, and seconds that have no date as they are", {
-  of <- function(...) list(rows = data.frame(second = c(...)))
-  expect_identical(seconds_text(c(1e8, NA), of(1e8, 9223372035)), c("1973-03-03T09:46:40Z", ""))
-  expect_identical(seconds_text(.POSIXct(c(1e8, NA)), of(1e8, 9223372036)), c("100000000", ""))
-  expect_identical(seconds_text(c(0, NA), of(0, 1e8)), c("0", ""))
 })
 
 test_that("layers have the polygons with an area", {
@@ -390,8 +369,8 @@ test_that("files that are not those of their report or record are refused", {
   writeLines(lines, own$files[2])
   copy <- file.path(local_folder(), basename(own$files[1]))
   file.copy(own$files[1], copy)
-  ranges$files <- c(own$files, copy)
-  refused(homerange_evidence(ranges, into), "have the same name", "homerange_name_error")
+  twice <- changed_ranges(ranges, function(x) replace(x, "files", list(c(own$files, copy))))
+  refused(homerange_evidence(twice, into), "have the same name", "homerange_name_error")
 })
 
 test_that("a record that is none is refused", {

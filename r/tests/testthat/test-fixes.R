@@ -159,12 +159,13 @@ test_that("a table of groups says that these are not looked at", {
 
 test_that("what is no table is refused", {
   skip_without_split()
-  refused <- function(x, text) expect_error(read_quietly(x), text, fixed = TRUE, class = "homerange_empty_error")
-  refused(list(1), "a list is neither a path nor a data frame with a row for each fix")
+  refused <- function(x, text, kind = "option") expect_error(read_quietly(x), text, fixed = TRUE, class = paste0("homerange_", kind, "_error"))
+  refused(5L, "a integer is neither a path nor a data frame with a row for each fix: make it one, as by data.frame(..)")
+  refused(list(1), "a list is neither a path nor a data frame with a row for each fix: make it one, as by data.frame(..)")
   refused(c("a", "b"), "a character is neither a path nor a data frame")
-  refused(structure(list(), class = "ltraj"), "with a row for each fix: adehabitatLT::ld(x) makes one of it")
-  refused(frame()[0, ], "the data frame has no row of a fix")
-  refused(frame()[integer()], "the data frame has no row of a fix")
+  refused(structure(list(), class = "ltraj"), "with a row for each fix: make it one, as by adehabitatLT::ld(x)")
+  refused(frame()[0, ], "the data frame has no row of a fix", "empty")
+  refused(frame()[integer()], "the data frame has no row of a fix", "empty")
 })
 
 test_that("a move2 table says which columns it has", {
@@ -244,8 +245,9 @@ test_that("what is not known of an animal with another name is missing, and stay
     path <- file.path(local_folder(), "page.html")
     suppressMessages(write_page(ranges, path))
     page <- paste(readLines(path, encoding = "UTF-8"), collapse = "")
-    cells <- regmatches(page, gregexpr("data-field=\"(records|left_dop)\">[^<]*", page))[[1]]
-    expect_identical(sort(sub(".*>", "", cells) == "\u2013"), c(FALSE, FALSE, TRUE, TRUE))
+    cells <- regmatches(page, gregexpr("data-field=\"records\">[^<]*", page))[[1]]
+    expect_identical(sub(".*>", "", cells), format(table(factor(fixes$animal, names(ranges)))[], trim = TRUE), ignore_attr = TRUE)
+    expect_match(page, "the fixes are not as they were read: what was left out before is neither in the folder nor on its page", fixed = TRUE)
   }
   whole <- quietly(read_fixes(table, zone = "33N"))  # of which nothing was left out
   expect_identical(summary(home_range(rename(whole, "fox", "wolf"), 100))$left_out, c(0, 0))
@@ -418,7 +420,7 @@ test_that("ranges of fixes are those of their table, and options are not told tw
   expect_identical(homerange_curve(quietly(home_range(mixed)))$hectares[mixed$animal == "none"], numeric())
   expect_error(home_range(fixes, zone = "33N"), "zone says how a table is read, and these fixes were read already: give it to read_fixes", class = "homerange_option_error")
   expect_silent(home_range(fixes, every = NULL))
-  expect_error(home_range(fixes, 95, NULL, "33N"), "an argument without a name says how a table is read", class = "homerange_option_error")
+  expect_error(home_range(fixes, 95, NULL, "33N"), "there is no option without a name", class = "homerange_option_error")
 })
 
 test_that("fixes that were changed are read again, and only what is new is said", {
@@ -445,7 +447,16 @@ test_that("fixes that were changed are read again, and only what is new is said"
   refused(transform_fixes(fixes, "animal", NA), "row 1: there is no animal", "animal")
   refused(transform_fixes(named(), "easting", c(0, 1e8, 0, 0)), "grid", "grid")
   refused(fixes[0, ], "no fix is left", "empty")
-  refused(structure(fixes, homerange = NULL), "it is not known how these fixes were read", "option")
+  refused(structure(fixes, homerange = NULL), "it is not known any more how these fixes were read", "option")
+})
+
+test_that("what is left out again is said again", {
+  skip_without_program()
+  table <- transform(walk("a", 12, 1), visible = c(rep(TRUE, 10), FALSE, FALSE))
+  expect_message(fixes <- read_fixes(table, zone = "33N"), "2 outliers: left out", class = "homerange_left_out_note")
+  fixes$visible[1:2] <- FALSE
+  expect_message(ranges <- home_range(fixes, 100), "2 outliers: left out", class = "homerange_left_out_note")
+  expect_identical(sum(homerange_left_out(ranges)$fixes), 4)
 })
 
 test_that("what a second reading leaves out is left out beside what was before", {
@@ -594,8 +605,33 @@ test_that("columns that were added and may say which fixes count are read or ref
   for (title in c("outlier", "LC", "event.visible", "utm-zone")) {
     expect_error(home_range(transform_fixes(fixes, title, "1"), 100), title, fixed = TRUE, class = "homerange_columns_error")
   }
-  fixes[["other"]] <- 1
   expect_silent(home_range(fixes, 100))
+})
+
+test_that("columns that were added to fixes are said as not read", {
+  skip_without_program()
+  skip_without_split()
+  fixes <- quietly(read_fixes(transform(square("fox"), sex = "f")))
+  added <- transform(fixes, exclude = c(0, 1, 0, 0), keep = TRUE)
+  line <- "not read: exclude, keep"
+  heard <- function(call) {
+    said <- capture_messages(found <- call)
+    list(found = found, said = sub("^homerange: (.*)\n$", "\\1", said))
+  }
+  for (own in list(added, added[-1, ], added[c(1, 2, 4), ])) {
+    answer <- heard(home_range(own, 100))
+    expect_identical(answer$said, line)
+    expect_identical(summary(answer$found)$fixes, as.numeric(nrow(own)))
+    expect_true(line %in% answer$found$notes)
+  }
+  expect_identical(heard(home_range(added, 100, by = "exclude"))$said, c("not read: keep", "ranges are by group: 2 of 1 animals"))
+  again <- heard(read_fixes(added))
+  expect_identical(again$said, line)
+  expect_true(line %in% format(again$found))
+  expect_true(all(again$found$keep))
+  expect_identical(heard(home_range(again$found, 100))$said, character())
+  expect_identical(heard(home_range(fixes, 100))$said, character())
+  expect_message(home_range(added, 100), line, class = "homerange_guessed_note")
 })
 
 test_that("options that look at further columns of fixes find them", {
@@ -661,6 +697,14 @@ test_that("tables that dplyr and tibble make of fixes keep how these were read",
   expect_message(home_range(grouped), "groups of the table are not looked at (side): by makes", fixed = TRUE, class = "homerange_guessed_note")
   expect_silent(home_range(dplyr::group_by(fixes, animal)))
   expect_null(facts_of(dplyr::select(grouped, second)))
+  # A table that a function makes without a column is a plain one, which is read as a new table; fixes that lose one say so.
+  without <- list(dplyr::select(fixes, -second), subset(fixes, select = -second), fixes[names(fixes) != "second"], dplyr::mutate(fixes, second = NULL))
+  for (table in without) expect_identical(class(table), "data.frame")
+  lost <- fixes
+  lost$second <- NULL
+  for (table in list(lost, within(fixes, rm(second)))) {
+    expect_message(read_fixes(table), "fixes without their column 'time' are read as a data frame", class = "homerange_guessed_note")
+  }
   expect_message(try(read_fixes(dplyr::rename(grouped, id = animal)), TRUE), "fixes without their column 'animal' are read as a data frame")
   expect_output(print(grouped), "8 fixes of 2 animals")
 })

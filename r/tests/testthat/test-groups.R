@@ -77,6 +77,52 @@ test_that("groups are those of a column, of values and of a function, of fixes a
   expect_identical(found, wanted_areas(table[marked$visible, ], table$sex[marked$visible]))
 })
 
+# Refuses values of which nobody knows the fix, and takes them as a column, as it says.
+refuses_order <- function(fixes, values) {
+  said <- paste0("by: it is not known which of the fixes each value is of, .* make the values a column of that table before read_fixes, or, .*, ",
+                 "as by fixes[$]group <- [.][.], and name it, as by by = \"group\"$")
+  expect_error(quietly(home_range(fixes, 100, by = values)), said, class = "homerange_option_error")
+  fixes$group <- values
+  areas_of(quietly(home_range(fixes, 100, by = "group")))
+}
+
+test_that("values beside fixes go by what is known of their order", {
+  skip_without_program()
+  # Rows of the frame take turns, and its fixes stand by animals: values of the one, in its order, are none of the other.
+  table <- cbind(frame(), sex = rep_len(c("f", "f", "m"), 80))
+  wanted <- wanted_areas(table, table$sex)
+  fixes <- read_frame_quietly(table)
+  own <- fixes$sex
+  expect_identical(areas_of(quietly(home_range(fixes, 100, by = own))), wanted)
+  expect_identical(areas_of(quietly(do.call(home_range, list(fixes, 100, by = factor(own))))), wanted)
+  expect_identical(areas_of(quietly(home_range(fixes[1:80, ], 100, by = fixes$sex[1:80]))), wanted)
+  marked <- `names<-`(wanted, paste0(names(wanted), "!"))
+  expect_identical(areas_of(quietly(home_range(fixes, 100, by = ifelse(fixes[["sex"]] == "f", "f!", "m!")))), marked)
+  refuses_order(fixes, table$sex)
+  expect_error(quietly(home_range(fixes, 100, by = rev(table$sex))), "by: it is not known which of the fixes", class = "homerange_option_error")
+  expect_error(quietly(home_range(fixes, 100, by = paste(table$sex, fixes$sex))), "by: it is not known", class = "homerange_option_error")
+  expect_error(quietly(home_range(fixes, 100, by = as.POSIXlt(table$time))), "by: it is not known", class = "homerange_option_error")
+  expect_identical(refuses_order(fixes, paste0(fixes$sex, "!")), marked)
+})
+
+test_that("values in the order of a table are taken where its fixes have it", {
+  skip_without_program()
+  table <- frame()[order(frame()$animal, frame()$time), ]
+  sex <- rep_len(c("f", "m", "m", "m"), 80)
+  fixes <- read_frame_quietly(table)
+  wanted <- wanted_areas(table, sex)
+  for (own in list(fixes, read_frame_quietly(fixes))) expect_identical(areas_of(quietly(home_range(own, 100, by = sex))), wanted)
+  local <- fixes
+  attr(local$time, "tzone") <- "Asia/Tokyo"
+  expect_identical(areas_of(quietly(home_range(local, 100, by = sex))), wanted)
+  chosen <- list(fixes[-1, ], fixes[80:1, ], rbind(fixes[1:40, ], read_frame_quietly(table[41:80, ])), read_frame_quietly(fixes[-1, ]))
+  for (own in chosen) refuses_order(own, sex[seq_len(nrow(own))])
+  path <- file.path(local_folder(), "fixes.csv")
+  write.csv(transform(table, time = format(time)), path, row.names = FALSE)
+  refuses_order(read_frame_quietly(path), sex)
+  expect_error(home_range(path, by = sex), "another order: read the file before, as by read.csv, and hand in the data frame", class = "homerange_option_error")
+})
+
 test_that("a title is that of the column of the frame, and none of a file", {
   skip_without_program()
   table <- frame()
@@ -110,7 +156,7 @@ test_that("moments are named by their own clock, and days without it", {
 test_that("what is no group is refused", {
   skip_without_program()
   table <- cbind(frame(), sex = "f", year = 1)
-  fixes <- read_frame_quietly(table)
+  fixes <- read_frame_quietly(table[order(table$animal, table$time), ])
   refused <- function(by, text, class = "homerange_option_error") {
     expect_error(quietly(home_range(fixes, by = by)), text, fixed = TRUE, class = class)
   }
@@ -125,7 +171,7 @@ test_that("what is no group is refused", {
   refused(as.list(1:80), "by = list is none of \"year\", \"month\", \"season\", no column of the fixes, no value for each of them")
   refused(replace(rep("a", 80), 5, NA), "row 5: by has no group: leave fixes without a group out")
   seconds <- walk("a", 9, 1)
-  expect_error(quietly(home_range(seconds, by = "month")), "by = \"month\": seconds have no calendar: read a table with a column of date-times in place of second",
+  expect_error(quietly(home_range(seconds, by = "month")), "by = \"month\": seconds have no calendar, since none is of the years 1973 to 2262: read a table with date-times of these",
                class = "homerange_option_error")
   early <- data.frame(animal = "a", time = as.POSIXct(c("2024-05-01", "1970-01-01", "2024-05-02"), tz = "UTC"), easting = 1:3, northing = c(1, 2, 1))
   expect_error(quietly(home_range(early, by = "month")), "a fix of 'a', at 1970-01-01 00:00:00 UTC, is not of the years 1973 to 2286",
@@ -163,7 +209,7 @@ test_that("evidence and pages are of whole ranges", {
   folder <- local_folder()
   expect_error(homerange_evidence(ranges, file.path(folder, "a")), "evidence is of whole ranges, and these are by groups",
                class = "homerange_option_error")
-  expect_error(write_page(ranges, file.path(folder, "b")), "a page is of whole ranges", class = "homerange_option_error")
+  expect_error(write_page(ranges, file.path(folder, "b.html")), "a page is of whole ranges", class = "homerange_option_error")
   expect_length(list.files(folder), 0)
 })
 
@@ -197,4 +243,42 @@ test_that("by names one column, or has a value for each fix", {
   }
   expect_identical(names(quietly(home_range(fixes[1, ], by = "s"))), "a u")
   expect_identical(names(quietly(home_range(fixes[1, ], by = function(own) "year"))), "a year")
+})
+
+test_that("groups that may be one, or none, are asked", {
+  skip_without_split()
+  cases <- list(
+    c("M", "M ", "groups 'M' and 'M ' differ in blanks or capitals alone: are they one?"),
+    c("M", "m", "groups 'M' and 'm' differ in blanks or capitals alone: are they one?"),
+    c("007", "7", "groups '007' and '7' differ in zeros alone: are they one?"),
+    c("V\u00b2", "V2", "groups 'V\u00b2' and 'V2' differ in the form of letters alone: are they one?"),
+    c("M", "-", "group '-' has 40 fixes: are they of no group?"), c("M", " ", "group ' ' has 40 fixes: are they of no group?"),
+    c("a/b", "a:b", "groups are not compared: groups 'a/b' and 'a:b' would both be named a_b"), c("M", "F")
+  )
+  fixes <- read_frame_quietly(frame()[order(frame()$animal, frame()$time), ])
+  for (case in cases) {
+    said <- list()
+    hear <- function(told) {
+      said <<- c(said, list(told))
+      invokeRestart("muffleMessage")
+    }
+    labels <- rep(case[1:2], 40)
+    found <- withCallingHandlers(areas_of(home_range(fixes, 100, by = labels)), homerange_note = hear)
+    expect_equal(found, wanted_areas(fixes, labels))
+    texts <- sub("^homerange: (.*)\n$", "\\1", vapply(said, conditionMessage, ""))
+    expect_identical(texts, c(case[-(1:2)], "ranges are by group: 4 of 2 animals"))
+    expect_s3_class(said[[length(said)]], "homerange_guessed_note")
+    if (length(said) > 1) expect_s3_class(said[[1]], "homerange_asked_note")
+  }
+})
+
+test_that("groups that have lost digits, or are no text, are refused", {
+  skip_without_split()
+  fixes <- read_frame_quietly(frame()[order(frame()$animal, frame()$time), ])
+  refused <- function(by, message, class) expect_error(home_range(fixes, by = by, quiet = TRUE), message, fixed = TRUE, class = class)
+  refused(rep(c(2^60, 2^60 + 4096), 40), "row 1: by has a group that is '1.152921504606847e+18', a number that has lost digits: read its column as text",
+          "homerange_option_error")
+  refused(rep(c("3E+14", "a"), 40), "by: group '3E+14' is a number that has lost digits: read its column as text", "homerange_name_error")
+  refused(rep(c(Inf, 1), 40), "row 1: by has a group that is 'inf', a number that is not whole: make it text", "homerange_option_error")
+  refused(rep(c("a\xe4", "a"), 40), "row 1: by has a group that is 'a<e4>', which is no text in UTF-8: mend it", "homerange_option_error")
 })

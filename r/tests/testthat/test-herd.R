@@ -23,7 +23,7 @@ test_that("70 animals are those of a direct computation", {
   expect_identical(round(summary(ranges)$hectares[summary(ranges)$level == 100] * 20000), unname(areas))
   rings <- lapply(tracks, function(track) track[rev(grDevices::chull(track)), ])
   wanted <- vapply(rings, function(ring) vapply(tracks, function(track) sum(in_ring(track, ring)), 0), numeric(70))
-  expect_identical(homerange_overlap(ranges), wanted)
+  expect_identical(counts_of_overlap(ranges), wanted)
   expect_gt(sum(wanted), 70 * 12 * 2)
   expect_identical(names(homerange_corners(ranges, 50)), unique(fixes$animal))
 })
@@ -47,7 +47,7 @@ counting_programs <- function(folder) {
   script <- file.path(folder, "homerange")
   writeLines(c("#!/bin/sh", paste("echo \"$1\" >>", shQuote(file.path(folder, "calls"))), paste("exec", shQuote(homerange_program()), "\"$@\"")), script)
   Sys.chmod(script)
-  file.symlink(split_program(), file.path(folder, "homerange-split"))
+  file.symlink(c(split_program(), page_program()), file.path(folder, c("homerange-split", "homerange-page")))
   script
 }
 

@@ -99,8 +99,8 @@ test_that("overlaps at a level are those of sf", {
     hulls <- sf::st_sfc(unname(hulls))
     wanted <- t(vapply(points, function(own) colSums(sf::st_intersects(own, hulls, sparse = FALSE)), numeric(4)))
     colnames(wanted) <- names(points)
-    expect_identical(homerange_overlap(ranges, levels = level), wanted)
-    expect_equal(homerange_overlap(ranges, share = TRUE, levels = level), wanted / c(120, 90, 61, 100))
+    expect_identical(counts_of_overlap(ranges, levels = level), wanted)
+    expect_equal(counts_of_overlap(ranges, share = TRUE, levels = level), wanted / c(120, 90, 61, 100))
   }
   expect_error(homerange_overlap(ranges, levels = 90), "levels = 90 is none of these ranges (50, 95, 100)", fixed = TRUE, class = "homerange_option_error")
   report <- read_report(system.file("extdata", "report.txt", package = "homerange"))
@@ -166,7 +166,7 @@ test_that("a report is written as the program writes it", {
   expect_identical(write_report(ranges, file.path(folder, "written.txt")), file.path(folder, "written.txt"))
   expect_identical(readBin(file.path(folder, "written.txt"), "raw", 1e6), readBin(path, "raw", 1e6))
   for (write in list(write_report, write_page)) {
-    expect_error(write(ranges, file.path(folder, "none", "x")), "none/x: there is no such folder$", class = "homerange_file_error")
+    expect_error(write(ranges, file.path(folder, "none", "x")), "none: there is no such folder$", class = "homerange_file_error")
     expect_error(write(ranges, folder), " is a folder$", class = "homerange_file_error")
     expect_error(write(ranges, NA), "path = NA is no path", class = "homerange_option_error")
   }

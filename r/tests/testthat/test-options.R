@@ -168,7 +168,8 @@ test_that("each line that is said has its kind", {
     "all 10 fixes lie within 2 by 1 m: are they in metres?" = "asked",
     "coordinates are shifted by 1000000 m east and 0 m north" = "moved",
     "coordinates are rounded to whole metres, which moves a fix by at most 0.71 m" = "rounded",
-    "areas of a are 0.15 % too great on this grid" = "scale", "2 records of a come before an earlier one: sorted by time" = "sorted",
+    "areas of a are 0.15 % too great on this grid" = "scale", "lengths of a differ by up to 2.72 % by direction on this grid" = "scale",
+    "2 records of a come before an earlier one: sorted by time" = "sorted",
     "2 records of a have the second of the one before, and 1 its place: kept" = "same",
     "a has 1048577 records, more than the 1048576 that homerange takes" = "limit",
     "no fix of a is used, which homerange refuses" = "limit", "animal 'a/b?' is named a_b_" = "renamed"

@@ -10,9 +10,18 @@ test_that("overlaps are those of st_intersects", {
   points <- lapply(tracks, function(own) sf::st_geometry(sf::st_as_sf(own, coords = c("easting", "northing"))))
   wanted <- t(vapply(points, function(own) colSums(sf::st_intersects(own, hulls, sparse = FALSE)), numeric(4)))
   colnames(wanted) <- names(tracks)
-  expect_identical(homerange_overlap(ranges), wanted)
-  expect_equal(homerange_overlap(ranges, share = TRUE), wanted / c(120, 90, 61, 100))
+  expect_identical(counts_of_overlap(ranges), wanted)
+  expect_equal(counts_of_overlap(ranges, share = TRUE), wanted / c(120, 90, 61, 100))
   expect_gt(sum(wanted), sum(diag(wanted)))
+})
+
+test_that("overlaps say of which level they are, which is 100 if none is named", {
+  skip_without_program()
+  ranges <- quietly(home_range(herd_of_three(), levels = 50))
+  expect_identical(names(dimnames(homerange_overlap(ranges))), c("fixes_of", "in_range_of_100"))
+  expect_output(print(homerange_overlap(ranges)), "in_range_of_100", fixed = TRUE)
+  both <- homerange_overlap(ranges, share = TRUE, levels = c(50, 100))
+  expect_identical(vapply(both, function(own) names(dimnames(own))[2], ""), c("50" = "in_range_of_50", "100" = "in_range_of_100"))
 })
 
 test_that("edges and corners count as within", {
@@ -20,5 +29,5 @@ test_that("edges and corners count as within", {
   square <- data.frame(animal = "a", second = 0:3, easting = c(0, 200, 200, 0), northing = c(0, 0, 200, 200))
   other <- data.frame(animal = "b", second = 0:3, easting = c(100, 200, 100, 201), northing = c(0, 200, 100, 100))
   wanted <- matrix(c(4, 3, 1, 4), 2, dimnames = list(c("a", "b"), c("a", "b")))
-  expect_equal(homerange_overlap(quietly(home_range(rbind(square, other)))), wanted)
+  expect_equal(counts_of_overlap(quietly(home_range(rbind(square, other)))), wanted)
 })

@@ -1,5 +1,4 @@
-# The page: its numbers, what is escaped, and how it writes them, worked out by hand. tools/tests/r_package.sh of the
-# repository holds it to that of the package for Python, byte for byte.
+# The page by the program homerange-page: its numbers, and what is escaped, worked out by hand; and areas of plots.
 
 page_of <- function(ranges, ...) {
   path <- file.path(local_folder(parent.frame()), "page.html")
@@ -10,6 +9,7 @@ page_of <- function(ranges, ...) {
 example_ranges <- function(...) read_report(system.file("extdata", "report.txt", package = "homerange"), ...)
 
 test_that("a page has the numbers of its report", {
+  skip_without_program()
   page <- page_of(example_ranges(start = as.POSIXct("2024-05-01", tz = "UTC")), made = as.Date("2026-11-26"))
   expect_match(page, "<h1><bdi>Home ranges of fox, badger and otter</bdi></h1>", fixed = TRUE)
   expect_match(page, "<span data-field=\"period\">1 to 2 May 2024 (dates of UTC)</span>. Made on 26 Nov 2026 with homerange", fixed = TRUE)
@@ -34,59 +34,48 @@ test_that("one pair and several that do not meet are said, and animals without a
   expect_match(page, "Of 27 fixes of the data 9 were left out: 9 marked as outliers.", fixed = TRUE)
 })
 
-test_that("lines that are not quoted are counted", {
-  expect_match(said_text(paste("line", 1:13)), "; and 1 line more.", fixed = TRUE)
-  expect_match(said_text(paste("line", 1:15)), "; and 3 lines more.", fixed = TRUE)
-})
-
 test_that("the command that a page names has no export where none is known", {
+  skip_without_program()
   expect_match(page_of(example_ranges()), "<code>python3 tools/verify.py FOLDER</code>", fixed = TRUE)
-  expect_match(verify_text(list(export = "export.csv"), "0"), "verify.py FOLDER EXPORT</code>", fixed = TRUE)
 })
 
-test_that("of pairs that meet the one with the greatest share is first", {
-  counts <- matrix(c(10, 5, 0, 9, 10, 8, 0, 1, 10), 3)
-  expect_identical(pairs_that_meet(counts, c(10, 10, 10)), rbind(c(1L, 2L), c(2L, 3L)))
-  expect_identical(pairs_that_meet(t(counts)[3:1, 3:1], c(10, 10, 10)), rbind(c(2L, 3L), c(1L, 2L)))
-  expect_identical(pairs_that_meet(counts, c(100, 100, 10)), rbind(c(2L, 3L), c(1L, 2L)))
+test_that("an export that is called as the text of a table is named, and that of a table is not", {
+  skip_without_program()
+  folder <- local_folder()
+  path <- file.path(folder, "fixes.csv")
+  utils::write.csv(deer, path, row.names = FALSE)
+  checksum <- sub(" .*", "", system2("sha256sum", shQuote(path), stdout = TRUE))
+  of_file <- page_of(quietly(home_range(path)))
+  expect_match(of_file, "<th>Export</th><td><bdi>fixes.csv</bdi></td>", fixed = TRUE)
+  expect_match(of_file, checksum, fixed = TRUE)
+  of_table <- page_of(quietly(home_range(utils::read.csv(path))))
+  expect_no_match(of_table, "fixes.csv", fixed = TRUE)
+  expect_no_match(of_table, checksum, fixed = TRUE)
+  # Fixes of the file that were changed since are those of a table that is read again.
+  fixes <- quietly(read_fixes(path))
+  expect_no_match(page_of(quietly(home_range(fixes[-1, ]))), "fixes.csv", fixed = TRUE)
+  expect_match(page_of(quietly(home_range(fixes))), checksum, fixed = TRUE)
 })
 
 test_that("what is typed in is escaped, and places in it stay", {
+  skip_without_program()
   page <- page_of(example_ranges(), title = "{{sentences}} <script>", study = "a & b", by = "M\u202ea")
   expect_match(page, "<title>{{sentences}} &lt;script&gt;</title>", fixed = TRUE)
   expect_match(page, "<span>Study: <bdi>a &amp; b</bdi></span> <span>By: <bdi>M\\u202ea</bdi></span> ", fixed = TRUE)
   expect_false(grepl("<script", page, fixed = TRUE))
 })
 
-test_that("numbers are rounded exactly, halves up", {
+test_that("areas of plots are rounded exactly, halves up", {
   expect_identical(quotient_text(c(1, 5, 2^52), c(2, 10, 1), 0), c("1", "1", "4,503,599,627,370,496"))
   expect_identical(quotient_text(2^53 - 1, 2^53, 2), "1.00")
   expect_identical(vapply(c(0, 19999, 20000, 199900, 26046000, 2), area_text, "", "m"),
                    c("0", "10,000 m\u00b2", "1.00", "10.00", "1,302", "1.00 m\u00b2"))
-  expect_identical(vapply(c(199, 200, 11999, 12000, 720000, NA), interval_text, ""),
-                   c("100 s", "2 min", "100 min", "1.7 h", "4.2 d", "\u2013"))
-  expect_identical(mapply(share_of_fixes, c(0, 1, 1, 999, 5), c(9, 201, 200, 1000, 5)), c("0 %", "<1 %", "1 %", ">99 %", "100 %"))
-  expect_identical(share_of_area(1, 0), "\u2013")
-  expect_identical(share_of_area(1, 16), "6.3 %")
-})
-
-test_that("dates are those of a clock", {
-  clock <- new_clock("Europe/Ljubljana", c(1714514400, 1714687200))
-  expect_identical(date_text(clock, 1714514400), "1 May 2024")
-  expect_identical(period_text(clock, 1714514400, 1714687200), "1 to 3 May 2024")
-  expect_identical(period_text(clock, 1714514399, 1714687200), "30 Apr to 3 May 2024")
-  expect_identical(period_text(new_clock("UTC", c(0, 1714687200)), 0, 172800), "day 1 to 3")
 })
 
 test_that("steps of axes are round", {
   expect_identical(step_text(step_of(7, 4), 3), "6")
   expect_identical(step_text(step_of(0.07, 4), 3), "0.06")
   expect_identical(step_text(step_of(7e6, 4), -3), "-6,000,000")
-})
-
-test_that("pairs stand in the order of their greater shares", {
-  counts <- matrix(c(10, 1, 4, 0, 10, 2, 9, 0, 10), 3, byrow = TRUE)
-  expect_equal(pairs_that_meet(counts, c(10, 10, 10)), rbind(c(1, 3), c(2, 3), c(1, 2)))
 })
 
 test_that("a ring of a boundary begins in the west, whichever way it went", {
@@ -110,9 +99,64 @@ test_that("a boundary is on the map", {
 test_that("what cannot be right is refused", {
   expect_error(write_page(1, "page.html"), "has no ranges: home_range makes them", class = "homerange_option_error")
   expect_error(write_page(example_ranges(), ""), "path = \"\" is no path", class = "homerange_option_error")
+  for (path in c("fixes.csv", "page", "html")) {
+    expect_error(write_page(example_ranges(), path), paste0("path = \"", path, "\": a name that ends in .html or .htm is wanted"), fixed = TRUE,
+                 class = "homerange_option_error")
+  }
+  expect_error(write_page(example_ranges(), "page.html", overwrite = 1), "overwrite = 1 is neither TRUE nor FALSE", class = "homerange_option_error")
   for (zone in c("Mars", "localtime", "posixrules", "Factory", "posix/Europe/Paris")) {
     expect_error(write_page(example_ranges(), "page.html", tz = zone), "no time zone", class = "homerange_option_error")
   }
   expect_error(write_page(example_ranges(), "page.html", reserve_name = "Park"), "reserve_name is the name of no reserve",
                class = "homerange_option_error")
+})
+
+test_that("a page and a report are written over their like, and over other files if it is said", {
+  skip_without_program()
+  folder <- local_folder()
+  writers <- list(page.HTM = write_page, page.html = write_page, report.txt = write_report)
+  for (name in names(writers)) {
+    path <- file.path(folder, name)
+    file.create(path)
+    writers[[name]](example_ranges(), path)
+    whole <- readLines(path)
+    writers[[name]](example_ranges()["fox"], path)
+    expect_false(identical(readLines(path), whole))
+    for (other in list(charToRaw("<!DOCTYPE html>\n<html lang=\"en\">\n<title>mine</title>\n"), as.raw(c(80, 75, 0, 4)), charToRaw("animal,second\na,1\n"))) {
+      writeBin(other, path)
+      expect_error(writers[[name]](example_ranges(), path), paste0("/", name, " is there, and is no (page of write_page|report): name another file, or say overwrite = TRUE$"),
+                   class = "homerange_file_error")
+      expect_identical(readBin(path, "raw", 1000), other)
+    }
+    writers[[name]](example_ranges(), path, overwrite = TRUE)
+    expect_identical(readLines(path), whole)
+  }
+})
+
+test_that("a page of some animals is of these alone", {
+  skip_without_program()
+  ranges <- quietly(home_range(deer))
+  page <- page_of(ranges["Asta"])
+  expect_match(page, "How many fixes were left out is not known.", fixed = TRUE)
+  expect_match(page, "EPSG:32633 (WGS 84 / UTM zone 33N)", fixed = TRUE)
+  expect_false(grepl("Bruno", page, fixed = TRUE))
+})
+
+test_that("a page of fixes that were changed says so", {
+  skip_without_program()
+  fixes <- quietly(read_fixes(deer))
+  ranges <- quietly(home_range(fixes[-(1:5), ]))
+  expect_message(page <- page_of(ranges), "the fixes are not as they were read", class = "homerange_note")
+  expect_match(page, "\u201cthe fixes are not as they were read: what was left out before is neither in the folder nor on its page\u201d", fixed = TRUE)
+})
+
+test_that("of files without a record it is not known what was left out", {
+  skip_without_program()
+  folder <- file.path(local_folder(), "hand-in")
+  quietly(homerange_evidence(quietly(home_range(deer)), folder))
+  files <- file.path(folder, "tracks", c("Asta.csv", "Bruno.csv", "Cilla.csv"))
+  ranges <- read_report(file.path(folder, "report.txt"), files = files)
+  expect_true(all(is.na(summary(ranges)$left_out)))
+  expect_null(ranges$left_out)
+  expect_match(page_of(ranges), "How many fixes were left out is not known.", fixed = TRUE)
 })

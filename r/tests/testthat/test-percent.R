@@ -75,8 +75,10 @@ test_that("polygons of many fixes over all of the grid agree with the program", 
 
 test_that("a polygon that is not that of the report is refused", {
   skip_without_program()
-  ranges <- quietly(home_range(walk("fox", 40, 5)))
-  ranges$percents$area2[2] <- ranges$percents$area2[2] + 1
+  ranges <- changed_ranges(quietly(home_range(walk("fox", 40, 5))), function(x) {
+    x$percents$area2[2] <- x$percents$area2[2] + 1
+    x
+  })
   expect_error(homerange_corners(ranges, 95), "level 95", class = "homerange_check_error")
   expect_error(homerange_corners(ranges, 70), "50, 95, 100", class = "homerange_option_error")
   expect_error(homerange_corners(ranges, "95"), class = "homerange_option_error")

@@ -88,6 +88,55 @@ test_that("a map is wide enough for a boundary, which has to be in its CRS", {
   expect_error(plot(report(), over = boundary), class = "homerange_option_error")
 })
 
+test_that("a boundary of which a map has no edge is said, and one that is far, and panels have it", {
+  skip_without_program()
+  skip_if_not_installed("sf")
+  fixes <- data.frame(animal = rep(c("a", "b"), each = 4), second = rep(60 * 0:3, 2), easting = 562000 + c(0, 200, 200, 0),
+                      northing = 5134000 + c(0, 0, 200, 200))
+  ranges <- quietly(home_range(fixes, zone = "33N"))
+  box <- function(west, south, east, north) sf::st_as_sfc(sf::st_bbox(c(xmin = west, ymin = south, xmax = east, ymax = north), crs = 32633))
+  said <- function(over, ...) drawn(function() capture_messages(plot(ranges, over = over, ...)))
+  unseen <- "homerange: no edge of the boundary is on this map, which lies "
+  expect_identical(said(box(500000, 5000000, 600000, 5200000)), paste0(unseen, "within it\n"))
+  expect_identical(said(box(561000, 5130000, 563000, 5133800)), paste0(unseen, "outside of it\n"))
+  middle <- sf::st_sfc(sf::st_point(c(562100, 5134100)), crs = 32633)
+  expect_identical(said(sf::st_difference(sf::st_buffer(middle, 9000), sf::st_buffer(middle, 4000))), paste0(unseen, "outside of it\n"))
+  expect_identical(said(box(561500, 5134100, 562100, 5134500)), character())
+  far <- box(582200, 5134000, 582300, 5134100)
+  expect_identical(said(far), paste0("homerange: ", c("the boundary lies at least 20.0 km away from all ranges: is it the right one, and its CRS?\n",
+                                                      "no edge of the boundary is on this map, which lies outside of it\n")))
+  expect_identical(drawn(function() {
+    plot(ranges, over = box(561900, 5133900, 562900, 5134500), facets = TRUE, reset = FALSE)
+    graphics::par("usr")[2] > 562900
+  }), TRUE)
+})
+
+test_that("limits between which nothing lies are refused, with those that are meant", {
+  skip_without_program()
+  ranges <- quietly(home_range(deer))
+  refused <- function(text, ...) expect_error(drawn(function() plot(ranges, ...)), text, fixed = TRUE, class = "homerange_option_error")
+  refused("xlim: the first is the greater: write xlim = c(555000, 570000)", xlim = c(570000, 555000))
+  refused(": limits are in metres, so write xlim = 1000 * c(555, 570)", xlim = c(555, 570))
+  refused("ylim: nothing lies from 5,131 to 5,131.5, since what is drawn goes from 5,131,9", ylim = c(5131, 5131.5))
+  refused("are no two ends of an axis", xlim = c(FALSE, TRUE))
+  refused("xlim is of one map, and facets have one for each animal: leave it out", xlim = c(555000, 570000), facets = TRUE)
+  expect_equal(drawn(function() {
+    plot(ranges, xlim = 1000 * c(555, 570), reset = FALSE)
+    mean(graphics::par("usr")[1:2])
+  }), 562500, tolerance = 0.01)
+  refused("xlim: nothing lies from 400 to 500, since what is drawn goes from 1 to 360", "curve", xlim = c(400, 500))
+  refused("ylim: nothing lies from 5,000 to 6,000, since what is drawn goes from 0 to 342.3", "curve", ylim = c(5000, 6000))
+  refused("xlim: nothing lies from 1970-01-01 00:00 to 1970-01-01 00:06, since what is drawn goes from 2024-04-01 00:00 to 2024-05-15 21:00",
+          "curve", by = "date", xlim = c(0, 360))
+  days <- as.Date(c("2024-04-10", "2024-05-01"))
+  for (ends in list(days, as.POSIXct(days))) {
+    expect_equal(drawn(function() {
+      plot(ranges, "curve", by = "date", xlim = ends, reset = FALSE)
+      mean(graphics::par("usr")[1:2])
+    }), 86400 * mean(as.numeric(days)))
+  }
+})
+
 test_that("the key lies beside the plot, or below it, within the page, and leaves it room", {
   for (names in list(c("Asta", "Bruno"), strrep("W", 32), paste("deer", 1:30), paste("deer", 1:200))) {
     drawn(function() {
@@ -127,7 +176,10 @@ test_that("of many animals each has a number at its polygon, and a name and an a
 })
 
 test_that("colours are those of the page", {
-  page <- readLines(system.file("extdata", "page.html", package = "homerange"), encoding = "UTF-8")
+  skip_without_program()
+  path <- file.path(local_folder(), "page.html")
+  write_page(quietly(home_range(deer)), path)
+  page <- readLines(path, encoding = "UTF-8")
   found <- unlist(regmatches(page, gregexpr("[.]c[0-6] [{] color: #[0-9a-f]{6}", page)))
   expect_identical(sub(".*(#.*)", "\\1", found), animal_colours)
 })
@@ -198,8 +250,16 @@ test_that("what is drawn over ranges has a shape and a reference system, and col
   skip_if_not_installed("sf")
   ranges <- quietly(home_range(walk("fox", 20, 1), 100, zone = "33N"))
   refused <- function(over, text) expect_error(check_over(ranges, over), text, fixed = TRUE, class = "homerange_option_error")
-  refused(sf::st_sfc(crs = 32633), "over has no shape")
-  refused(sf::st_sfc(sf::st_polygon(), crs = 32633), "over has no shape")
+  refused(sf::st_sfc(crs = 32633), "the boundary has no area: there is no shape in it")
+  refused(sf::st_sfc(sf::st_polygon(), crs = 32633), "the boundary has no area: there is no shape in it")
+  points <- sf::st_sfc(sf::st_point(c(562000, 5134000)), crs = 32633)
+  refused(points, "the boundary has no area: it is of points, and polygons are wanted")
+  around <- sf::st_buffer(points, 300)
+  line <- sf::st_cast(around, "LINESTRING")
+  refused(line, "the boundary has no area: it is of lines, and polygons are wanted; sf::st_cast(over, \"POLYGON\") makes them of closed lines")
+  expect_identical(sf::st_area(check_over(ranges, sf::st_cast(line, "POLYGON"))), sf::st_area(around))
+  expect_message(found <- check_over(ranges, c(points, around)), "left out of the boundary, without an area: row 1\n", class = "homerange_left_out_note")
+  expect_identical(sf::st_area(found), sf::st_area(around))
   refused(sf::st_sfc(sf::st_point(c(562000, 5134000))), "over has no CRS: name its own, as by sf::st_set_crs(over, 32633)")
   expect_identical(drawn_animals(ranges, NULL, factor("red"))$colour, "red")
 })

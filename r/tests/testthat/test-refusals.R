@@ -12,7 +12,7 @@ refused <- function(table, message, class = "homerange_option_error", ...) {
 test_that("levels are plain whole numbers from 1 to 100, and others are refused with the remedy", {
   skip_without_program()
   wrong <- function(message, levels) refused(fixes(), message, levels = levels)
-  wrong("levels: numbers from 1 to 100 are wanted, such as c(50, 95), and not \"95\"", "95")
+  wrong("levels: numbers from 1 to 100 are wanted, such as c(50, 95), and not \"95\": it is a text, so write 95 without quotes", "95")
   wrong("and not 0 values", numeric())
   wrong("levels: 0.95 is not a whole number from 1 to 100: levels are per cent, such as 95", 0.95)
   wrong("levels: 94.99999999 is not a whole number from 1 to 100: levels are per cent, such as 95", 94.99999999)
@@ -36,8 +36,37 @@ test_that("other arguments that cannot be right are refused", {
   refused(fixes(), "'spring' is no time in UTC", since = "spring")
   refused(fixes(), "tz='Bavaria' is no time zone", tz = "Bavaria")
   refused(fixes(), "33U is no zone as 33N: U is a band, and the zone is 33N", "homerange_zone_error", zone = "33U")
-  refused(list(1), "a list is neither a path nor a data frame", "homerange_empty_error")
+  refused(list(1), "a list is neither a path nor a data frame")
   expect_identical(nrow(homerange_curve(quietly(home_range(fixes(), unit = NULL)))), 4L)
+})
+
+test_that("what others call an option is refused with the name that it has here", {
+  skip_without_split()
+  read <- quietly(read_fixes(fixes()))
+  named <- c(percent = "here it is levels", id = "here it is animal", epsg = "here it is crs", date = "here it is time",
+             timezone = "here it is tz", group = "here it is by", unin = "coordinates are in metres, and in no other unit",
+             unout = "areas are in hectares", xy = "easting and northing name columns of metres, and lon and lat those of degrees",
+             sep = "read a file of another form before, as by read.csv, and give the data frame", verbose = "quiet = TRUE says nothing")
+  for (name in names(named)) {
+    for (table in list(fixes(), read)) {
+      text <- paste0("there is no option ", name, ": ", named[[name]])
+      expect_error(do.call(home_range, c(list(table), `names<-`(list(95), name))), text, fixed = TRUE, class = "homerange_option_error")
+    }
+  }
+  expect_error(read_fixes(fixes(), levels = 95), "there is no option levels: give it to home_range", fixed = TRUE, class = "homerange_option_error")
+  expect_error(home_range(read, nonsense = 95), "there is no option nonsense", fixed = TRUE, class = "homerange_option_error")
+  known <- c(names(formals(home_range)), options_of_reading)
+  expect_identical(setdiff(names(ours), known), character())
+  expect_identical(intersect(names(elsewhere), options_of_reading), character())
+})
+
+test_that("levels of answers that are none of the ranges are refused with the remedy", {
+  skip_without_split()
+  ranges <- quietly(home_range(fixes(), c(50, 95)))
+  wrong <- function(levels, text) expect_error(homerange_corners(ranges, levels), text, fixed = TRUE, class = "homerange_option_error")
+  wrong(0.95, "levels = 0.95 is none of these ranges (50, 95, 100): levels are per cent, such as 95")
+  wrong("95", "levels = \"95\" is none of these ranges (50, 95, 100): it is a text, so write 95 without quotes")
+  wrong(90, "levels = 90 is none of these ranges (50, 95, 100)")
 })
 
 test_that("names are kept as they are, whatever files have", {

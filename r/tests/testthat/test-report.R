@@ -25,7 +25,7 @@ test_that("a report is read", {
   expect_equal(areas$last, c(40, 40, 5, 5))
   expect_identical(areas$left_out, rep(NA_real_, 4))
   expect_equal(homerange_curve(ranges)$hectares, c(0, 0, 2, 4, 0))
-  expect_equal(homerange_overlap(ranges), matrix(c(4, 1, 0, 1), 2, dimnames = list(c("NA", "Ha\u0219e"), c("NA", "Ha\u0219e"))))
+  expect_equal(counts_of_overlap(ranges), matrix(c(4, 1, 0, 1), 2, dimnames = list(c("NA", "Ha\u0219e"), c("NA", "Ha\u0219e"))))
   expect_equal(homerange_corners(ranges)[["NA"]], cbind(easting = c(0, 200, 200, 0), northing = c(0, 0, 200, 200)))
   expect_error(homerange_corners(ranges, 50), "polygons below 100 per cent need the fixes", class = "homerange_option_error")
 })
@@ -35,8 +35,8 @@ test_that("lines may end as those of other systems do, and numbers have any digi
   lines <- sub("row,NA,2,20,2,0", "row,NA,2,0000000000000000000000020,2,0", square)
   writeLines(enc2utf8(lines), path, sep = "\r\n", useBytes = TRUE)
   expect_identical(read_report(path)$rows$second, c(10, 20, 30, 40, 5))
-  great <- replace(square, 4, "row,NA,2,9007199254740993,2,0")
-  expect_identical(read_report(written(great))$rows$second[2], 2^53)
+  great <- replace(square, 6, "row,NA,4,9007199254740993,4,80000")
+  expect_identical(read_report(written(great))$rows$second[4], 2^53)
 })
 
 # The report of an animal that stays at a place for these seconds, which then goes 200 units to the north.
@@ -130,4 +130,46 @@ test_that("files that are no tracks are refused in one line", {
   writeLines(c("unit,m", "zone,none", "track,a,1,1", "left,a,1,every,2,3"), file.path(folder, "split.txt"))
   expect_error(read_track(file.path(folder, "split.txt")), "has no fix with animal, second, easting and northing", class = "homerange_text_error")
   expect_error(read_track(folder), "is a folder: name its files, as by list.files", class = "homerange_file_error")
+})
+
+# What python/homerange/report.py refuses.
+test_that("reports that contradict themselves are refused as Python's reader refuses them", {
+  refused <- function(at, line, said) {
+    expect_error(read_report(written(replace(square, at, line))), said, fixed = TRUE, class = "homerange_report_error")
+  }
+  refused(19, "overlap,NA,Ha\u0219e,5,4", "NA: 5 of 4 fixes, but it has 4")
+  refused(19, "overlap,NA,Ha\u0219e,3,3", "NA: 3 of 3 fixes, but it has 4")
+  refused(11, "percent,NA,50,2,2,90000", "NA: no polygon of fixes that are kept")
+  refused(11, "percent,NA,50,2,3,0", "NA: no polygon of fixes that are kept")
+  refused(12, "percent,NA,100,4,4,70000", "NA: all are kept, but it is not the last row")
+  refused(12, "percent,NA,100,4,3,80000", "NA: all are kept, but it is not the last row")
+  refused(11, "percent,NA,50,3,2,0", "NA: 3 fixes are not 50 percent")
+  refused(4, "row,NA,2,9,2,0", "NA: seconds or areas fall")
+  refused(5, "row,NA,3,30,3,90000", "NA: seconds or areas fall")
+  refused(2, "box,NA,0,0,200,201", "NA: the corners are not of the box")
+  refused(8, "corner,NA,2,201,0", "NA: the corners are not of the box")
+  refused(c(9, 2), c("corner,NA,3,200,190", "box,NA,0,0,200,200"), "NA: the corners are not of the area")
+  refused(7:10, paste0("corner,NA,", 1:4, c(",200,0", ",200,200", ",0,200", ",0,0")), "NA: the first corner is not the westernmost")
+  refused(8:9, c("corner,NA,2,200,200", "corner,NA,3,200,0"), "NA: the corners are not of the area")
+  refused(16:17, c("corner,Ha\u0219e,1,7,8", "percent,Ha\u0219e,60,1,1,0"), "lines are missing, or there twice")
+  refused(19:20, square[20:19], "lines are missing, or there twice")
+  long <- strrep("a", 33)
+  expect_error(read_report(written(gsub("NA", long, square))), paste(long, "is no name of an animal"), class = "homerange_report_error")
+  # A pentagon whose last corner lies within the square of the others: of the area that the corners have, and not convex.
+  dented <- c("animal,a,fixes,5", "box,a,0,0,200,200", paste0("row,a,", 1:4, ",", 1:4, ",", 1:4, ",0"), "row,a,5,5,5,60000",
+              paste0("corner,a,", 1:5, c(",0,0", ",200,0", ",200,200", ",0,200", ",50,100")), "percent,a,100,5,5,60000", "end,1")
+  expect_equal(doubled_ring(c(0, 200, 200, 0, 50), c(0, 0, 200, 200, 100)), 70000)
+  said <- "a: the corners are not those of a convex polygon"
+  expect_error(read_report(written(gsub("60000", "70000", dented))), said, class = "homerange_report_error")
+  # Seconds may begin anew with another animal.
+  expect_s3_class(read_report(written(square)), "home_range")
+})
+
+test_that("a report in UTF-16 is said to be none in UTF-8", {
+  path <- file.path(local_folder(), "report.txt")
+  for (coding in c("UTF-16LE", "UTF-16BE", "UTF-16")) {
+    writeBin(iconv("animal,fox,fixes,1\nend,1\n", "UTF-8", coding, toRaw = TRUE)[[1]], path)
+    expect_error(read_report(path), "is no text in UTF-8: it has a byte 0, as files in UTF-16 have: write it in UTF-8", fixed = TRUE,
+                 class = "homerange_text_error")
+  }
 })

@@ -27,7 +27,7 @@ test_that("ranges without an area are lines and points", {
   skip_without_program()
   skip_if_not_installed("sf")
   fixes <- data.frame(id = c("one", "two", "two", "three", "three", "three"), date = as.Date("2024-05-01") + 0:5,
-                      x = c(1, 1, 2, 1, 2, 1), y = c(1, 1, 2, 1, 1, 2))
+                      x = 4321000 + c(1, 1, 2, 1, 2, 1), y = 3210000 + c(1, 1, 2, 1, 1, 2))
   ranges <- sf::st_as_sf(quietly(home_range(fixes, crs = 3035)), 100)
   expect_identical(as.character(sf::st_geometry_type(ranges)), c("POINT", "LINESTRING", "POLYGON"))
   expect_equal(ranges$hectares, c(0, 0, 0.00005))
@@ -186,6 +186,109 @@ test_that("a reference system of wrong areas is refused or said", {
   expect_message(read_fixes(sf::st_transform(points, 31468)), "areas of hare are 0[.][0-9]+ % too great on this grid",
                  class = "homerange_scale_note")
   expect_null(facts_of(read_fixes(sf::st_transform(points, 3035), quiet = TRUE))$zone)
+})
+
+# Five fixes around a place in longitude and latitude, as points.
+lynx_at <- function(longitude, latitude, crs) {
+  places <- data.frame(animal = "lynx", date = as.POSIXct("2024-05-01", tz = "UTC") + 3600 * 0:4,
+                       x = longitude + c(0, 0.004, -0.003, 0.001, 0.002), y = latitude + c(0, 0.001, 0.006, -0.005, 0.002))
+  sf::st_transform(sf::st_as_sf(places, coords = c("x", "y"), crs = 4326), crs)
+}
+
+# The same as eastings and northings in columns.
+in_columns <- function(points) {
+  data.frame(points[c("animal", "date")], easting = sf::st_coordinates(points)[, 1], northing = sf::st_coordinates(points)[, 2])[-3]
+}
+
+# Expects that points are refused, and the same places in columns whose reference system is named, as sf::st_transform mends it.
+expect_turned <- function(points, crs, text, columns, zone) {
+  message <- function(help, code) paste0(text, ", and not east and north: sf::st_transform(", help, ", ", code, ")")
+  kind <- "homerange_crs_error"
+  expect_error(read_fixes(points, quiet = TRUE), message("x", zone), fixed = TRUE, class = kind)
+  named <- paste0("the points, as by sf::st_as_sf(x, coords = c(", columns, "), crs = ..)")
+  expect_error(read_fixes(in_columns(points), crs = crs, quiet = TRUE), message(named, "EPSG"), fixed = TRUE, class = kind)
+  wanted <- quietly(read_fixes(sf::st_transform(points, 4326)))
+  expect_identical(facts_of(wanted)$zone, zone_of_crs(sf::st_crs(zone)))
+  again <- sf::st_as_sf(in_columns(points), coords = c("easting", "northing"), crs = crs)
+  for (turned in list(sf::st_transform(points, zone), sf::st_transform(again, zone))) {
+    expect_identical(quietly(read_fixes(turned))[c("easting", "northing")], wanted[c("easting", "northing")])
+  }
+}
+
+test_that("axes that go west or south are refused", {
+  skip_without_split()
+  skip_if_not_installed("sf")
+  expect_turned(lynx_at(19.5, -33, 2048), 2048, "the axes of the CRS Hartebeesthoek94 / Lo19 go west and south", "WESTING, SOUTHING", 32734)
+  expect_turned(lynx_at(15, 50, 5513), 5513, "the axes of the CRS S-JTSK / Krovak go south and west", "SOUTHING, WESTING", 32633)
+  own <- "+proj=tmerc +lon_0=-19 +axis=wnu +ellps=GRS80"
+  expect_turned(lynx_at(-19, 65, own), own, "the axes of the CRS unknown go west and north", "WESTING, NORTHING", 32627)
+  # Around a pole both axes go south; eastings may be below 0.
+  expect_identical(nrow(quietly(read_fixes(lynx_at(15, 71, 3995)))), 5L)
+  expect_lt(max(quietly(read_fixes(lynx_at(15, 50, 5514)))$easting), 0)
+  site <- "ENGCRS[\"plant\",EDATUM[\"plant\"],CS[Cartesian,2],AXIS[\"y\",west],AXIS[\"x\",north],LENGTHUNIT[\"metre\",1]]"
+  points <- sf::st_set_crs(sf::st_set_crs(lynx_at(19, 50, 32634), NA), sf::st_crs(site))
+  for (call in list(quote(read_fixes(points)), quote(read_fixes(in_columns(points), crs = site)))) {
+    expect_error(quietly(eval(call)), paste("^the axes of the CRS plant go west and north, and not east and north: make eastings and northings",
+                                            "of its coordinates, which need no CRS$"), class = "homerange_crs_error")
+  }
+})
+
+test_that("a system that sf cannot turn is refused", {
+  skip_without_split()
+  skip_if_not_installed("sf")
+  points <- sf::st_set_crs(sf::st_set_crs(lynx_at(15, 50, 32633), NA), 2985)
+  expect_error(read_fixes(points, quiet = TRUE), "has no way to longitude and latitude that sf knows: name another one, such as by its code$",
+               class = "homerange_crs_error")
+})
+
+test_that("the unit of a plane is that of its axes, whatever its projection is", {
+  skip_if_not_installed("sf")
+  unit_of <- function(crs) unit_of_plane(sf::st_crs(crs)$wkt)
+  for (metres in c("EPSG:8857", "EPSG:6247", "EPSG:32633+5773", "+proj=utm +zone=33 +towgs84=1,2,3")) expect_null(unit_of(metres))
+  expect_identical(unit_of("EPSG:6201"), "US survey foot")
+  expect_identical(unit_of("+proj=eqearth +units=km"), "kilometre")
+})
+
+test_that("a grid on which lengths differ by direction is refused or said", {
+  skip_without_split()
+  skip_if_not_installed("sf")
+  lines_of <- function(points, ...) grep("on this grid", capture_messages(read_fixes(points, ...)), value = TRUE)
+  # By geodesics of PROJ between places that lie on a circle of the grid around the mean of the five.
+  told <- list(list(3035, -6.4, 37, "2.72"), list(3577, 146.8, -43.5, "7.21"), list(6933, 20, 31, "2.07"))
+  for (one in told) {
+    points <- lynx_at(one[[2]], one[[3]], one[[1]])
+    line <- paste0("homerange: lengths of lynx differ by up to ", one[[4]], " % by direction on this grid\n")
+    expect_identical(lines_of(points), line)
+    expect_identical(lines_of(in_columns(points), crs = one[[1]]), line)
+    expect_message(read_fixes(points), "lengths of lynx", class = "homerange_scale_note")
+  }
+  refused <- list(list("EPSG:6933", 16, 48, "67.18"), list("ESRI:54009", 31, -24, "21.42"), list("EPSG:8857", 16, 48, "18.89"))
+  for (one in refused) {
+    expect_error(read_fixes(lynx_at(one[[2]], one[[3]], one[[1]]), quiet = TRUE),
+                 paste0("^lengths of lynx differ by up to ", one[[4]], " % by direction on this grid: take a zone or a reference system of the place$"),
+                 class = "homerange_scale_error")
+  }
+  expect_identical(lines_of(lynx_at(16.4, 48.2, 3035)), character())
+})
+
+test_that("scales are those of the formulas of two projections, and of the ground where a system has a sphere", {
+  skip_if_not_installed("sf")
+  # The equal-area cylinder of the parallel of 30 degrees (Snyder 1987, formula 10-9): a length along the parallel is so many times
+  # as long as on the ground, and one along the meridian as many times shorter.
+  squared <- 1 - (6356752.314245 / 6378137)^2
+  along <- function(latitude) sqrt(1 - squared * sin(latitude * pi / 180)^2) / cos(latitude * pi / 180)
+  for (latitude in c(0, 31, 48)) {
+    at <- sf::st_coordinates(sf::st_transform(sf::st_sfc(sf::st_point(c(20, latitude)), crs = 4326), 6933))
+    times <- along(latitude) / along(30)
+    expect_equal(scales_of_crs(sf::st_crs(6933))(at[1], at[2]), c(areas = 1, lengths = max(times, 1 / times)^2), tolerance = 1e-7)
+  }
+  # In the middle of an azimuthal projection of a sphere an area is that of the sphere: on the ground a degree of latitude is
+  # shorter at the equator, and one of longitude as long.
+  radius <- 6370997
+  at_equator <- scales_of_crs(sf::st_crs(paste0("+proj=laea +lat_0=0 +lon_0=10 +R=", radius)))(0, 0)
+  parallel <- 6378137
+  meridian <- parallel * (1 - squared)
+  expect_equal(at_equator, c(areas = radius^2 / (parallel * meridian), lengths = parallel / meridian), tolerance = 1e-7)
 })
 
 test_that("fixes are points of sf, where they were", {

@@ -16,6 +16,28 @@ test_that("options of the session change no number and no name", {
   expect_identical(names(named), "1,25e+00")
 })
 
+test_that("an argument that is NULL for a misspelt name is refused", {
+  skip_without_program()
+  table <- table_of_four()
+  said <- function(name, part) paste0(name, ": ", part, " is NULL: is it misspelt? leave ", name, " out where none is meant")
+  refused(home_range(table, by = table$seson), said("by", "table$seson"))
+  refused(home_range(table, 100, table[["seson"]][1:4]), said("by", "table[[\"seson\"]][1:4]"))
+  refused(home_range(table, zone = (table$zne)), said("zone", "(table$zne)"))
+  refused(read_fixes(table, crs = table$zne), said("crs", "table$zne"))
+  none <- NULL
+  ranges <- quietly(home_range(table, by = none, zone = NULL))
+  expect_identical(quietly(home_range(table, by = if (FALSE) table$animal))$animals, ranges$animals)
+  wrapped <- function(...) home_range(..., zone = none)
+  refused(wrapped(table, by = table$seson), said("by", "table$seson"))
+  refused(plot(ranges, over = table$reserve), said("over", "table$reserve"))
+  page <- file.path(local_folder(), "page.html")
+  refused(write_page(ranges, page, reserve = table$reserve), said("reserve", "table$reserve"))
+  refused(homerange_evidence(ranges, page, title = table$words), said("title", "table$words"))
+  refused(read_report(page, files = table$paths), said("files", "table$paths"))
+  skip_if_not_installed("sf")
+  refused(sf::st_as_sf(ranges, levels = table$levels), said("levels", "table$levels"))
+})
+
 test_that("units on the wrong axis are refused", {
   skip_without_split()
   skip_if_not_installed("units")
@@ -52,7 +74,7 @@ test_that("arguments that are none are refused by this package", {
   ranges <- quietly(home_range(table_of_four()))
   folder <- local_folder()
   refused(homerange_evidence(ranges, file.path(folder, "a"), nonsense = 1), "there is no argument nonsense")
-  refused(homerange_evidence(ranges, file.path(folder, "a"), "title"), "there is no argument without a name")
+  refused(homerange_evidence(ranges, file.path(folder, "a"), "title"), "there is an argument too many")
   refused(homerange_evidence(ranges, file.path(folder, "a"), title = 1), "title = 1 is no text")
   refused(write_page(ranges, file.path(folder, "a.html"), made = "today"), "made = \"today\" is no date")
   refused(write_page(ranges, "/proc/page.html"), "/proc/page.html: ", "file")
@@ -111,8 +133,8 @@ test_that("lengths of time beside days become times", {
   skip_without_split()
   table <- cbind(table_of_four()[c("animal", "easting", "northing")], day = as.Date("2024-05-01"), clock = as.difftime(c(0, 1, 30, 31), units = "hours"))
   refused(read_fixes(table, time = c("day", "clock")),
-          "as.POSIXct(x[[\"day\"]]) + x[[\"clock\"]] makes times of both, in a column that time names alone", "time")
-  table$when <- as.POSIXct(table[["day"]]) + table[["clock"]]
+          "as.POSIXct(x[[\"day\"]], tz = \"UTC\") + x[[\"clock\"]] makes times of both, in a column that time names alone", "time")
+  table$when <- as.POSIXct(table[["day"]], tz = "UTC") + table[["clock"]]
   expect_identical(quietly(read_fixes(table, time = "when", tz = "UTC"))$time, as.POSIXct("2024-05-01", tz = "UTC") + 3600 * c(0, 1, 30, 31))
 })
 

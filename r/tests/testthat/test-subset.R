@@ -40,7 +40,7 @@ test_that("several home ranges together are those of one table, with their overl
   expect_identical(without_call(joined), without_call(whole))
   expect_gt(sum(homerange_overlap(whole)[1:2, 3:4]), 0)
   expect_identical(joined$fixes[-1], whole$fixes[-1])
-  expect_identical(joined$notes, c(one$notes, two$notes))
+  expect_identical(joined$notes, union(one$notes, two$notes))
   expect_identical(homerange_corners(joined, 50), homerange_corners(whole, 50))
 })
 
@@ -55,6 +55,16 @@ test_that("home ranges that cannot stand together are refused", {
   refused(quietly(home_range(other, levels = 50)), "they differ in their levels")
   refused(quietly(home_range(transform(other, easting = easting - 1e6))), "they differ in their shift")
   refused(1, "has no ranges: home_range makes them")
+  one <- quietly(home_range(walk("fox", 9, 1)))
+  other <- quietly(home_range(walk("elk", 9, 2)))
+  for (whole in list(c(one, other), c(one, NULL, other), rbind(NULL, one, other), Reduce(rbind, list(one, other), NULL))) {
+    expect_identical(names(whole), c("fox", "elk"))
+    expect_s3_class(whole, "home_range")
+  }
+  expect_error(homerange_curve(c(NULL, one)), "a list has no ranges: c(NULL, ranges) makes a list of their parts, and rbind(NULL, ranges) ranges",
+               fixed = TRUE, class = "homerange_option_error")
+  expect_error(homerange_curve(list(one, other)), "a list has no ranges: bind those that are in it, as by do.call(c, x)", fixed = TRUE,
+               class = "homerange_option_error")
   days <- data.frame(animal = "wolf", date = as.Date("2024-05-01") + 0:2, x = 1:3, y = c(1, 5, 2))
   refused(quietly(home_range(days)), "they differ in their times")
 })
@@ -118,9 +128,29 @@ test_that("a dollar answers as brackets do", {
 test_that("the ranges of an animal are not put or taken away by its name", {
   skip_without_program()
   ranges <- quietly(home_range(herd_of_three(), 100))
-  expect_error(ranges$fox <- NULL, "are not changed one by one", class = "homerange_option_error")
-  expect_error(ranges[] <- 1, "are not changed one by one", class = "homerange_option_error")
-  expect_error(ranges["unit", "fox"] <- 1, "are not changed one by one", class = "homerange_option_error")
-  expect_error(ranges["fox"] <- ranges["fox"], "are not changed one by one", class = "homerange_option_error")
-  expect_error(ranges[["fox"]] <- NULL, "take some by x[..], and bind ranges by c", fixed = TRUE, class = "homerange_option_error")
+  outside <- function(call) eval(call, list(x = ranges), globalenv())
+  for (call in expression(x$fox <- NULL, x[] <- 1, x["unit", "fox"] <- 1, x["fox"] <- x["fox"], x[["fox"]] <- NULL, x[["unit"]] <- "dm",
+                          x$unit <- "dm", x$percents$area2[1] <- 0, x["notes"] <- NULL, x$crs <- 3, names(x$overlaps) <- "a")) {
+    said <- "ranges are not changed: take some by x[..], bind ranges by c"
+    expect_error(outside(call), said, fixed = TRUE, class = "homerange_option_error")
+  }
+})
+
+test_that("animals are chosen by names, places and truths, and by nothing else", {
+  report <- read_report(system.file("extdata", "report.txt", package = "homerange"))
+  skip_if_not_installed("bit64")
+  expect_identical(names(report[bit64::as.integer64(2)]), names(report)[2])
+  expect_identical(names(report[-1]), names(report)[-1])
+  expect_identical(names(report[I(2)]), names(report)[2])
+  refused <- function(i, text) expect_error(report[i], text, fixed = TRUE, class = "homerange_option_error")
+  refused(c(-1, 1), "places from 1 on take animals, and those below 0 leave some out")
+  refused(~a, "the names or the places of animals are wanted, and not formula")
+  refused(1i, "the names or the places of animals are wanted, and not 0+1i")
+  refused(quote(a), "the names or the places of animals are wanted, and not name")
+  refused(as.Date("2024-05-01"), "the names or the places of animals are wanted, and not Date")
+  refused(bit64::as.integer64(NA), "there is no animal at this place")
+  for (one in list(-1, 0, TRUE, FALSE, NA, c(1, 2), bit64::as.integer64(-1))) {
+    expect_error(report[[one]], "the name or the place of one animal is wanted", fixed = TRUE, class = "homerange_option_error")
+  }
+  expect_identical(report[[2]], report[2])
 })

@@ -38,9 +38,31 @@ test_that("animals are chosen by what is known of them", {
   expect_identical(names(subset(ranges, fixes <= least & animal != "c")), "b")
   expect_identical(subset(ranges), ranges)
   expect_error(subset(ranges, fixes), "TRUE or FALSE is wanted for each of 2 ranges", class = "homerange_option_error")
-  expect_error(subset(ranges, fixes > 9), "no animal is named", class = "homerange_option_error")
+  expect_error(subset(ranges, fixes > 9), "subset: no range is such as is asked", class = "homerange_option_error")
+  lost <- "^subset: there is no column hectares_90: there are animal, fixes, first, last, left_out, hectares_60, hectares_100$"
+  expect_error(subset(ranges, hectares_90 > 5), lost, class = "homerange_option_error")
+  expect_error(subset(ranges, area > 5), "^subset: there is no column area: there are animal, ", class = "homerange_option_error")
+  expect_error(subset(ranges, stop("of my own")), "^of my own$", class = "simpleError")
+  expect_error(subset(ranges, fixes > 2, hectares_100 > 1), "^subset takes one condition: join several by &, as by subset\\(x, fixes > 30 & ",
+               class = "homerange_option_error")
+  expect_error(subset(ranges, fixes > 2, select = animal), "^there is no argument select$", class = "homerange_option_error")
   skip_if_not_installed("dplyr")
   expect_identical(names(dplyr::filter(ranges, fixes == max(fixes))), "a")
+  expect_error(dplyr::filter(ranges, fixes > 1, hectares_90 > 5), lost, class = "homerange_option_error")
+  expect_error(dplyr::filter(ranges, .data$hectares_90 > 5), lost, class = "homerange_option_error")
+})
+
+test_that("verbs of dplyr for tables refuse ranges, and take the table of these", {
+  skip_without_program()
+  skip_if_not_installed("dplyr")
+  ranges <- ranges_of_squares()
+  verbs <- c("arrange", "group_by", "left_join", "mutate", "pull", "rename", "select", "semi_join", "slice", "summarise")
+  for (verb in verbs) {
+    expect_error(getExportedValue("dplyr", verb)(ranges, 1), paste0("^ranges are no table, which ", verb, " wants: dplyr::filter\\(x, [.][.]\\) ",
+                                                                    "chooses among them, and as.data.frame\\(x\\) is a table of theirs$"),
+                 class = "homerange_option_error")
+  }
+  expect_identical(dplyr::pull(as.data.frame(ranges), level), summary(ranges)$level)
 })
 
 test_that("tidy has a row for each animal and level, and glance one of all", {
@@ -70,6 +92,13 @@ test_that("sf has polygons, areas, boxes and files of ranges and of fixes", {
     sf::st_write(x, path, quiet = TRUE)
     expect_identical(nrow(sf::st_read(path, quiet = TRUE)), if (inherits(x, "home_range")) 4L else 9L)
   }
+})
+
+test_that("a group without an area is named with its group", {
+  skip_without_program()
+  skip_if_not_installed("sf")
+  ranges <- ranges_of_squares(by = c("w", "e", "e", "w", "w", "w", "e", "e", "w"))
+  expect_error(sf::st_write(ranges, file.path(local_folder(), "a.shp")), "a range of a w has no area", class = "homerange_option_error")
 })
 
 test_that("pictures of ggplot2 have the corners and the curves", {

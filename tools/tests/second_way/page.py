@@ -1,5 +1,5 @@
-"""The page report.html, held to what is computed: each piece of its text has to be the one that is wanted, where the template
-python/homerange/page.html has those that all pages share. What the map and the curves draw is not computed."""
+"""The page report.html, held to what is computed: each piece of its text has to be the one that is wanted, where the crate page_html
+has those that all pages share. What the map and the curves draw is not computed."""
 
 from __future__ import annotations
 
@@ -19,7 +19,8 @@ from .html_blocks import Block, Blocks, blanked
 from .method import ground, method, records_of, source_of
 from .records import Run
 
-TEMPLATE = Path(__file__).resolve().parents[3] / "python" / "homerange" / "page.html"
+TEMPLATE = Path(__file__).resolve().parents[3] / "crates" / "page_html" / "src" / "template.rt"
+SHARED = re.compile(r'const (BEFORE|BEHIND)_([A-Z]+): &\[u8\] = br##"(.*?)"##;', re.S)  # what stands before a place, or behind the last
 DRAWN = "\0"  # what is said of the map's drawing
 FORM = (r"Dots are fixes; of those that would cover each other one is drawn\.( The boundary lies outside this map\.)?"
         r"( Too small to be seen beside the others: [0-9, ]+(, \.\.)?\.)?")
@@ -287,7 +288,7 @@ def said(block: Block, first: int = 0) -> str:
 
 def difference(path: Path, animals: Sequence[Animal], counts: Counts, run: Run) -> str | None:
     """How the pieces of a page are not those that are wanted; None where they are."""
-    page, template = page_of(path), page_of(TEMPLATE)
+    page, template = page_of(path), Blocks(shared_text(), TEMPLATE.name)
     if page.zone != run.typed("clock"):
         return f"its dates are of {page.zone}"
     odd = [number for number, colour in page.colours if (int(number) - 1) % COLOURS != colour]
@@ -305,6 +306,12 @@ def difference(path: Path, animals: Sequence[Animal], counts: Counts, run: Run) 
     return None
 
 
+def shared_text() -> str:
+    """What all pages share, with the names of its places between."""
+    found = SHARED.findall(TEMPLATE.read_text("utf-8"))
+    return "".join(text if where == "BEHIND" else f"{text}{{{{{place.lower()}}}}}" for where, place, text in found)
+
+
 def page_of(path: Path) -> Blocks:
-    """The pieces of a page, or of the template."""
+    """The pieces of a page."""
     return Blocks(path.read_bytes().decode("utf-8"), path.name)

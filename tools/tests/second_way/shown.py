@@ -1,5 +1,5 @@
 """How the page writes numbers, lengths of time, dates and names, by exact quotients; halves are rounded up. The forms are
-those that the first lines of python/homerange/write/formats.py state."""
+those of docs/GUIDE.md, The page."""
 
 from __future__ import annotations
 

@@ -28,7 +28,7 @@ MORE_LINES = re.compile(r"(?:not read: .*|all [0-9,]+ fixes lie within .*|the fi
                         r"|animals .* differ in (?:zeros|the form of letters(?: and in blanks or capitals)?) alone: are they one\?"
                         r"|[0-9]+ times have parts of a second: .*|.* lies? [0-9,]+ km from the other animals: .*"
                         r"|animal '.*' has [0-9]+ records: are they of no animal\?"
-                        r"|--na: no field of the columns that are read is '.*')")
+                        r"|--na: no field of the columns that are read is '.*'|[0-9]+ times have no offset, which others have, .*)")
 MORE_OF_COLUMNS = re.compile(r"(columns: .* box [0-9.]+ by [0-9.]+ km)(?: near [0-9.]+ [EW] [0-9.]+ [NS])?(?:,? from .*)?")
 OTHER_KINDS = ("export", "sha256", "tool")  # of lines of a record that records.txt has not
 

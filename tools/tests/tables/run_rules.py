@@ -122,7 +122,7 @@ REFUSED = [
            ("utcOffset", "2"), ("utc_offset_min", "120"), ("offset to UTC (s)", "7200"), ("tz_name", "Europe/Vienna"), ("time.zone.code", "CET"), ("GMT", "+2"),
            ("fuso orario", "UTC+1"), ("UTC diff", "+0200"))),
     *((f"hours beside days as {cell}", [], f"id,date,x,y,{title}\na,2024-05-01,1000,2000,{cell}\na,2024-05-01,1030,2040,{other}\n".encode(), None,
-       f"column 5 '{title}' has hours, which the days of the time have not: write them as clocks, such as 00:30, and join them, as by --time DAY,COLUMN")
+       f"column 5 '{title}' has hours, which the days of the time have not: write them as clocks, such as 00:30, and join them, as by --time 'date,{title}', or remove it")
       for title, cell, other in (("hour", "0.5", "1.5"), ("hora", "0030", "0130"), ("hour", "00h30", "01h30"), ("Hour (UTC)", "1.25", "2.50"))),
     ("metres beside degrees of the same title", [], b"id,date,x,y,X,Y\na,2024-05-01,561000,5134000,,\na,2024-05-02,561030,5134040,,\na,2024-05-03,,,561000,5134000\n", None,
      "column 6 'Y' has coordinates of records that have none"),
@@ -134,9 +134,13 @@ REFUSED = [
      "name one, as by --animal animal, or both, where one has the animals that the other has not, as by --animal animal,id"),
     ("zones of metres that change", [], b"id,date,x,y,UTMzone\na,2024-05-01,500000,5000000,33N\na,2024-05-02,500030,5000040,34N\n", None, "column 5 'UTMzone' has several values"),
     ("a hemisphere beside degrees", [], b"id,date,lon,lat,E/W\na,2024-05-01,0.5,51.5,E\na,2024-05-02,0.5,51.5,W\n", None, "column 5 'E/W' has S or W beside degrees above 0"),
+    *((f"a side in words beside degrees, {one}", [], f"id,date,lon,lat,side\na,2024-05-01,15.8,46.3,{one}\na,2024-05-02,15.8,46.3,{other}\n".encode(), None,
+       "column 5 'side' has S or W beside degrees above 0, and is not read: if they lie there, write them with a minus and remove it, and else write its values otherwise")
+      for one, other in (("south", "north"), ("S.", "N."), ("SOUTH", "S"), ("Sud", "Nord"), ("Southern hemisphere", "northern hemisphere"), ("süd", "Norden"), ("sur", "sur"),
+                         ("West", "East"), ("w.", "E"), ("Ouest", "Est"), ("oeste", "leste"), ("west longitude", "west longitude"), ("O", "E"))),
     ("halves of the day", [], b"id,time,x,y,half\na,2024-05-01 01:00,1000,2000,AM\na,2024-05-01 01:30,1030,2040,pm\n", None, "column 5 'half' has halves of the day"),
-    ("a clock beside days", [], b"id,date,x,y,Uhrzeit\na,2024-05-01,1000,2000,10:30\na,2024-05-01,1030,2040,9:15\n", None, "column 5 'Uhrzeit' has hours"),
-    ("hours beside days", [], b"id,date,x,y,hora\na,2024-05-01,1000,2000,7\na,2024-05-01,1030,2040,23\n", None, "column 5 'hora' has hours, which the days of the time have not: join them, as by --time DAY,COLUMN --time-format '%Y-%m-%d %H'"),
+    ("a clock beside days", [], b"id,date,x,y,Uhrzeit\na,2024-05-01,1000,2000,10:30\na,2024-05-01,1030,2040,9:15\n", None, "column 5 'Uhrzeit' has hours, which the days of the time have not: join them, as by --time 'date,Uhrzeit', or remove it"),
+    ("hours beside days", [], b"id,date,x,y,hora\na,2024-05-01,1000,2000,7\na,2024-05-01,1030,2040,23\n", None, "column 5 'hora' has hours, which the days of the time have not: join them, as by --time 'date,hora' --time-format '%Y-%m-%d %H', or remove it"),
     ("an offset of times that begins as UTC", [], b"id,time,x,y,utc_offset\na,2024-03-31 00:00,1000,2000,Z\na,2024-03-31 00:30,1030,2040,+00:00\na,2024-03-31 01:30,1060,2040,+01:00\n", None,
      "column 5 'utc_offset' says of which zone times are"),
     ("an offset of times", [], b"id,time,x,y,utc_offset\na,2024-05-01 01:00,1000,2000,+2\na,2024-05-01 02:00,1030,2040,+2\n", None, "column 5 'utc_offset' says of which zone times are"),
@@ -160,8 +164,71 @@ REFUSED = [
     ("more columns than a table may have", [], b"id,date,x,y" + 16381 * b",z" + b"\n", None, "has 16385 columns, and a table may have 16384"),
     ("an hour that was passed over", ["--tz", "Europe/Ljubljana"], b"id,timestamp,x,y\na,2024-03-31 02:30,1000,2000\n", 1,
      "timestamp: the clocks of Europe/Ljubljana passed over that time"),
+    *((f"a system under {title} that nobody named, {cell}", [], f"id,date,x,y,{title}\na,2024-05-01,561000,5134000,{cell}\na,2024-05-02,561030,5134040,{cell}\n".encode(), None,
+       f"column 5 '{title}' says of which {what} coordinates are, and is not read: name it, as by {option}, or remove it") for title, cell, what, option in (
+           ("epsg", "32633", "zone", "--zone 33N"), ("SRID", "32733", "zone", "--zone 33S"), ("crs", "EPSG:25833", "zone", "--zone 33N"), ("CRS", "urn:ogc:def:crs:EPSG::32633", "zone", "--zone 33N"),
+           ("epsg_code", "26917", "zone", "--zone 17N"), ("crs", "WGS 84 / UTM zone 33N", "zone", "--zone 33N"), ("zone", "33T", "zone", "--zone 33N"), ("zone", "33 K", "zone", "--zone 33S"),
+           ("zone", "33N", "zone", "--zone 33N"), ("Zona", "UTM 21S", "zone", "--zone 21S"), ("coordinate_system", "EPSG:31287", "system", "--crs EPSG:31287"), ("srid", "27700", "system", "--crs EPSG:27700"),
+           ("epsg", "4087", "system", "--crs EPSG:4087"), ("epsg", "4839", "system", "--crs EPSG:4839"))),
+    *((f"a system that is not the named one, {cell}", words, f"id,date,x,y,crs\na,2024-05-01,561000,5134000,{cell}\na,2024-05-02,561030,5134040,{cell}\n".encode(), None,
+       "column 5 'crs' says another reference system of coordinates than is named: name that one, or remove it where it is not theirs") for words, cell in (
+           (["--zone", "33N"], "EPSG:32634"), (["--zone", "33N"], "EPSG:32733"), (["--zone", "33N"], "EPSG:31287"), (["--crs", "EPSG:31287"], "31256"), (["--crs", "EPSG:31287"], "32633"))),
+    *((f"metres that are said to be {what}, {cell}", words, f"id,date,x,y,crs\na,2024-05-01,561000,5134000,{cell}\na,2024-05-02,561030,5134040,{cell}\n".encode(), None, f"column 5 'crs' says that coordinates are {what}")
+      for words in ([], ["--zone", "33N"], ["--crs", "EPSG:31287"])
+      for what, cell in (("of a projection of Mercator", "EPSG:3857"), ("of a projection of Mercator", "900913"), ("longitude and latitude", "EPSG:4326"), ("longitude and latitude", "4258"))),
+    *((f"a system of option --crs, {cell}", ["--crs", cell], OWN.encode(), None, f"--crs: {cell} {what}") for cell, what in (
+        ("EPSG:4326", "has longitude and latitude"), ("4258", "has longitude and latitude"), ("EPSG:3857", "is a projection of Mercator"), ("urn:ogc:def:crs:EPSG::3395", "is a projection of Mercator"))),
+    ("a first moment behind the last", ["--since", "2024-06-01", "--until", "2024-05-01"], b"id,date,x,y\na,2024-05-01,1000,2000\n", None,
+     "since is '2024-06-01', which is later than until, '2024-05-01': no fix is of both"),
+    ("a date in the columns of its parts", [], b"id,Year,Month,Day,Hour,Min,x,y\na,2024,5,1,7,30,1000,2000\na,2024,5,1,8,0,1030,2040\n", None,
+     "no column has a usual title for the time, and columns have its parts: join them, as by --time 'Year,Month,Day,Hour,Min' --time-format '%Y %m %d %H %M', or leave them out"),
+    ("a date by the day of its year", [], b"id,yr,julday,x,y\na,24,121,1000,2000\na,24,122,1030,2040\n", None, ": join them, as by --time 'yr,julday' --time-format '%y %j', or leave them out"),
+    ("hours and minutes beside days of another form", ["--time-format", "%d.%m.%Y|%d/%m/%Y"], b"id,date,h,hour,minute,x,y\na,01.05.2024,1,7,30,1000,2000\na,01/05/2024,1,8,0,1030,2040\n", None,
+     "column 4 'hour' has hours, which the days of the time have not: join them, as by --time 'date,hour,minute' --time-format '%d.%m.%Y %H %M|%d/%m/%Y %H %M', or remove it"),
+    ("minutes beside hours", ["--time", "date,hour", "--time-format", "%Y-%m-%d %H"], b"id,date,hour,minute,x,y\na,2024-05-01,7,30,1000,2000\na,2024-05-01,8,0,1030,2040\n", None,
+     "column 4 'minute' has minutes, which the hours of the time have not: join them, as by --time 'date,hour,minute' --time-format '%Y-%m-%d %H %M', or remove it"),
+    ("seconds beside minutes", ["--time-format", "%Y-%m-%d %H:%M"], b"id,date,sec,x,y\na,2024-05-01 07:30,30,1000,2000\na,2024-05-01 07:30,5,1030,2040\n", None,
+     "column 3 'sec' has seconds, which the minutes of the time have not: join them, as by --time 'date,sec' --time-format '%Y-%m-%d %H:%M %S', or remove it"),
+    *((f"columns of the time without their form, {titles}", ["--time", titles], f"id,{titles},x,y\na,{cells},1000,2000\n".encode(), 1, f": name its form, as by --time-format '{form}'") for titles, cells, form in (
+        ("date,hour", "2024-05-01,7", "%Y-%m-%d %H"), ("Jahr,Monat,Tag", "2024,5,1", "%Y %m %d"), ("year,doy,clock", "2024,121,7:30", "%Y %j %H:%M"), ("date,hhmm", "01.05.2024,0730", "%d.%m.%Y %H%M"))),
+    ("a day without signs between", [], b"id,date,x,y\na,20240501,1000,2000\n", 1, "which looks like a date without hyphens: name its form, as by --time-format '%Y%m%d'"),
+    ("a moment without signs between", [], b"id,date,x,y\na,20240501073000,1000,2000\n", 1, ": name its form, as by --time-format '%Y%m%d%H%M%S'"),
+    ("a year of two digits", [], b"id,date,x,y\na,0024-05-01,1000,2000\n", 1, ": if its year was written with two digits, write all four"),
+    *((f"a number written otherwise, {cell}", [], f'id,date,x,y\na,2024-05-01,"{cell}",2000\n'.encode(), 1, f"x is '{cell}' and not a number of up to 12 digits: {what}") for cell, what in (
+        ("1000,5", "write its decimals behind a point, and nothing before thousands"), ("1,000,000", "write its decimals behind a point"), ("1.5e5", "write all of its digits"), ("+1000", "write it without +"))),
+    ("accelerations beside degrees", [], b"id,date,Longitude,Latitude,x,y\na,2024-05-01,15.8,46.3,0.02,-0.98\na,2024-05-02,15.9,46.4,0.12,-0.91\n", None,
+     "all of x and y lie within 180 by 90, as longitude and latitude do, and there are Longitude and Latitude: name these by --lon Longitude --lat Latitude; or, if x and y are metres, add 1000 to all"),
+    ("degrees times 10,000,000", [], b"id,date,lon,lat\na,2024-05-01,158000000,463000000\n", 1, "degrees that were multiplied, as by 10,000,000, are divided first"),
+    ("animals of two continents", [], b"id,date,lon,lat\na,2024-05-01,15.8,46.3\na,2024-05-02,15.81,46.31\nb,2024-05-01,-105.8,46.3\n", 3,
+     "off the grid, which goes from 0 to 16777216 metres: if the fix is right, make a table of each place, and else leave it out"),
+    ("animals of two zones far apart", [], b"id,date,lon,lat\na,2024-05-01,15.8,46.3\na,2024-05-02,15.81,46.31\nb,2024-05-01,30,46.3\n", None,
+     " % too great on this grid: take a zone or a reference system of the place, or make a table of each place where animals live far apart"),
+    ("a sensor of no fix, and those of fixes", ["--sensor", "argos"], b"id,date,x,y,sensor-type\na,2024-05-01,1000,2000,gps\na,2024-05-02,1030,2040,gps\na,2024-05-02,1030,2040,vhf\n", None,
+     "--sensor: no fix is of argos: they are of gps 2, vhf 1"),
+    ("a sensor without its column", ["--sensor", "gps"], b"id,date,x,y\na,2024-05-01,1000,2000\n", None, "--sensor: no fix is of gps: no column has a usual title for the sensor: name it sensor-type, or leave --sensor out"),
 ]
 READ = [
+    *((f"a system that is the named one, {cell}", ["--zone", "33N"], f"id,date,x,y,crs\na,2024-05-01,501000,5002000,{cell}\na,2024-05-02,501030,5002040,{cell}\n".encode(),
+       ["coordinates are those of the table; zone: 33N", columns("id, date, x, y", "0.030 by 0.040", " near 15.0 E 45.2 N, from 2024-05-01 to 2024-05-02"), "not read: crs"],
+       {"a": "a,1714521600,501000,5002000\na,1714608000,501030,5002040\n"}) for cell in ("EPSG:32633", "25833", "33T", "WGS84")),
+    *((f"the system of option --crs under {title}", ["--crs", "EPSG:31287"], f"id,date,x,y,{title}\na,2024-05-01,1000,2000,{cell}\na,2024-05-02,1030,2040,{cell}\n".encode(),
+       ["coordinates are those of the table; reference system: EPSG:31287", columns("id, date, x, y", "0.030 by 0.040", ", from 2024-05-01 to 2024-05-02"), f"not read: {title}"], {"a": "a,1714521600,1000,2000\na,1714608000,1030,2040\n"})
+      for title, cell in (("crs", "EPSG:31287"), ("epsg", "31287"), ("system", "12345"), ("crs", "MGI / Austria Lambert"), ("zone", "3"))),
+    ("degrees beside the system of other coordinates", [], b"id,date,lon,lat,epsg\na,2024-05-01,15.8,46.356742,3857\na,2024-05-02,15.8,46.356742,3857\n",
+     ["longitude and latitude are projected into zone 33N; fixes by zone: 33N 2", "coordinates are rounded to whole metres, which moves a fix by at most 0.48 m",
+      columns("id, date, lon, lat", "0.000 by 0.000", " near 15.8 E 46.4 N, from 2024-05-01 to 2024-05-02"), "not read: epsg"], {"a": "a,1714521600,561546,5133996\na,1714608000,561546,5133996\n"}),
+    ("times of which some have an offset", [], b"id,time,x,y\na,2024-05-01 02:00+02:00,1000,2000\na,2024-05-01 01:00,1010,2000\na,2024-05-01T02:00Z,1030,2040\na,2024-05-01 03:00,1030,2040\n",
+     ["2 times have no offset, which others have, and are read in UTC: records 2, 4", *LINES, columns("id, time, x, y", "0.030 by 0.040", ", from 2024-05-01 to 2024-05-01")],
+     {"a": "a,1714521600,1000,2000\na,1714525200,1010,2000\na,1714528800,1030,2040\na,1714532400,1030,2040\n"}),
+    ("times of which some have an offset, and a zone", ["--tz", "Europe/Ljubljana"], b"id,time,x,y\na,1714521600,1000,2000\na,2024-05-01 03:00,1030,2040\n",
+     ["times are read as ISO text, in Europe/Ljubljana", "1 times have no offset, which others have, and are read in Europe/Ljubljana: records 2", *LINES,
+      columns("id, time, x, y", "0.030 by 0.040", ", from 2024-05-01 to 2024-05-01")], {"a": "a,1714521600,1000,2000\na,1714525200,1030,2040\n"}),
+    ("GPX with waypoints and a route", ["--from", "gpx"], GPX.replace("<gpx>", "<gpx><wpt lat='1' lon='2'/><rte><rtept lat='1' lon='2'/><rtept lat='1' lon='2'/></rte>").encode(),
+     ["points of no track, as waypoints and those of routes: 3, not read", "longitude and latitude are projected into zone 33N; fixes by zone: 33N 2", "coordinates are rounded to whole metres, which moves a fix by at most 0.36 m",
+      columns("animal, time, lon, lat", "0.008 by 0.011", " near 15.8 E 46.4 N, from 2024-05-01 to 2024-05-01")], {"fox": "fox,1714521600,562000,5134001\nfox,1714525200,562008,5134012\n"}),
+    ("minutes that stay", ["--time", "date,hour", "--time-format", "%Y-%m-%d %H"], b"id,date,hour,minute,x,y\na,2024-05-01,7,0,1000,2000\na,2024-05-01,8,0,1030,2040\n",
+     ["times are read as %Y-%m-%d %H, in UTC", *LINES, columns("id, date, hour, x, y", "0.030 by 0.040", ", from 2024-05-01 to 2024-05-01"), "not read: minute"],
+     {"a": "a,1714546800,1000,2000\na,1714550400,1030,2040\n"}),
     ("hours joined to days as they are told to be", ["--time", "date,hora", "--time-format", "%Y-%m-%d %H"], b"id,date,x,y,hora\na,2024-05-01,1000,2000,7\na,2024-05-01,1030,2040,23\n",
      ["times are read as %Y-%m-%d %H, in UTC", *LINES, columns("id, date, hora, x, y", "0.030 by 0.040", ", from 2024-05-01 to 2024-05-01")], {"a": "a,1714546800,1000,2000\na,1714604400,1030,2040\n"}),
     ("a form with Z in UTC", ["--time-format", "%Y-%m-%dT%H:%MZ", "--tz", "UTC"], b"id,date,x,y\na,2024-05-01T00:30Z,1000,2000\na,2024-05-01T01:30Z,1030,2040\n",
@@ -200,6 +267,12 @@ READ = [
      [*LINES, "all 10 fixes lie within 2 by 1 m: are they in metres?", columns("animal, second, easting, northing", "0.002 by 0.001", ", from second 0 to 9")], {"v": KILOMETRES}),
     ("titles that are not read", [], b"id,date,temperature,x,y,note\na,2024-05-01,9,1000,2000,x\na,2024-05-03,9,1030,2040,y\n",
      [*LINES, columns("id, date, x, y", "0.030 by 0.040", ", from 2024-05-01 to 2024-05-03"), "not read: temperature, note"], {"a": "a,1714521600,1000,2000\na,1714694400,1030,2040\n"}),
+    *((f"no side of degrees, {title} {one}", [], f"id,date,lon,lat,{title}\na,2024-05-01,15.805899,46.356742,{one}\na,2024-05-02,15.805999,46.356842,{other}\n".encode(),
+       ["longitude and latitude are projected into zone 33N; fixes by zone: 33N 2", "coordinates are rounded to whole metres, which moves a fix by at most 0.36 m",
+        columns("id, date, lon, lat", "0.008 by 0.011", " near 15.8 E 46.4 N, from 2024-05-01 to 2024-05-02"), f"not read: {title}"],
+       {"a": "a,1714521600,562000,5134001\na,1714608000,562008,5134012\n"})
+      for title, one, other in (("site", "South", "North"), ("population", "South", "South"), ("Aspect", "south", "South"), ("side", "South", "West"), ("hemisphere", "North", "N."),
+                                ("side", "O", "O"), ("side", "Ost", "east"), ("note", "South meadow", "South meadow"))),
     ("days with hours by their form", ["--time-format", "%Y%m%d%H"], b"id,timestamp,x,y\na,2024050112,1000,2000\na,2024050213,1030,2040\n",
      ["times are read as %Y%m%d%H, in UTC", *LINES, columns("id, timestamp, x, y", "0.030 by 0.040", ", from 2024-05-01 to 2024-05-02")],
      {"a": "a,1714564800,1000,2000\na,1714654800,1030,2040\n"}),
@@ -235,8 +308,8 @@ READ = [
       columns("time, lon, lat", "0.008 by 0.011", " near 15.8 E 46.4 N, from 2024-05-01 to 2024-05-01")], {"dog": "dog,1714521600,562000,5134001\ndog,1714525200,562008,5134012\n"}),
     ("digits side by side", ["--time-format", "%d%m%y"], b"id,date,x,y\na,010524,1000,2000\na,020524,1030,2040\n",
      ["times are read as %d%m%y, in UTC", *LINES, columns("id, date, x, y", "0.030 by 0.040", ", from 2024-05-01 to 2024-05-02")], {"a": "a,1714521600,1000,2000\na,1714608000,1030,2040\n"}),
-    ("a zone that stays and letters that are no sides", [], b"id,date,x,y,zone,group\na,2024-05-01,1000,2000,33N,A\na,2024-05-02,1030,2040,33N,B\n",
-     [*LINES, columns("id, date, x, y", "0.030 by 0.040", ", from 2024-05-01 to 2024-05-02"), "not read: zone, group"], {"a": "a,1714521600,1000,2000\na,1714608000,1030,2040\n"}),
+    ("a zone that stays and is named, and letters that are no sides", ["--zone", "33N"], b"id,date,x,y,zone,group\na,2024-05-01,501000,5002000,33N,A\na,2024-05-02,501030,5002040,33N,B\n",
+     ["coordinates are those of the table; zone: 33N", columns("id, date, x, y", "0.030 by 0.040", " near 15.0 E 45.2 N, from 2024-05-01 to 2024-05-02"), "not read: zone, group"], {"a": "a,1714521600,501000,5002000\na,1714608000,501030,5002040\n"}),
     ("west with a minus", [], b"id,date,lon,lat,E/W\na,2024-05-01,-0.5,51.5,W\na,2024-05-02,-0.5,51.5,W\n",
      ["longitude and latitude are projected into zone 30N; fixes by zone: 30N 2", "coordinates are rounded to whole metres, which moves a fix by at most 0.61 m",
       columns("id, date, lon, lat", "0.000 by 0.000", " near 0.5 W 51.5 N, from 2024-05-01 to 2024-05-02"), "not read: E/W"],
@@ -306,7 +379,7 @@ def machine_fault(program, folder):
     table = f"{TITLES}\nv,0,1,\"2,5\"\n".encode()
     found = run(program, ["--machine"], table, folder)
     path = str(folder / "table")
-    wanted = [["number", path, "1", "northing is '2,5' and not a number of up to 12 digits"]]
+    wanted = [["number", path, "1", "northing is '2,5' and not a number of up to 12 digits: write its decimals behind a point, and nothing before thousands"]]
     if found.returncode != 1 or list(csv.reader(found.stderr.decode().splitlines())) != wanted:
         return f"status {found.returncode}: {found.stderr!r}"
     found = subprocess.run([program, "--machine", "--nothing"], capture_output=True, cwd=folder)

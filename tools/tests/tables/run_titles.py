@@ -1,7 +1,7 @@
 #!/usr/bin/env python3
 """run_titles.py PROGRAM: the lines of titles that homerange-split refuses, some beside options, with the line that it says. Another
 reader of the same rules in Python, which went when the program took its place, said them, but for rules that it did not have; those
-of titles that say a clock, and of such that seem to, were written by hand."""
+of titles that say a clock, a side or a multiple, and of such that seem to, were written by hand."""
 import subprocess
 import sys
 import tempfile
@@ -20,6 +20,7 @@ METRES = ", and coordinates are in metres: write metres, and rename the column"
 DEGREES = ", and longitude and latitude are in degrees: write degrees with decimals, and rename the column"
 NO_MARKS = " (a fix is not used where 'visible' is false, or 'manually-marked-outlier' is true)"
 EXAMPLE = "Europe/Ljubljana"
+NO_RECORD = "there is no record below the titles"
 # The options, the titles, and the line.
 REFUSED = [
     ([], "Id,ID,date,x,y", "column 1 'Id' and column 2 'ID' both fit id: rename one"),
@@ -32,8 +33,8 @@ REFUSED = [
     ([], "id,date,x,y,argos-lc,Argos.LC", "column 5 'argos-lc' and column 6 'Argos.LC' both fit argos-lc: rename one"),
     ([], "id,Date,x,y,date", "column 2 'Date' and column 5 'date' both fit date: rename one"),
     (["--max-dop", "5"], "id,date,x,y,gps-dop,GPS DOP", "column 5 'gps-dop' and column 6 'GPS DOP' both fit gps-dop: rename one"),
-    (["--max-dop", "5", "--dop", "GPS DOP"], "id,date,x,y,gps-dop,GPS DOP", "there is no record below the titles"),
-    (["--time", "date"], "id,Date,x,y,date", "there is no record below the titles"),
+    (["--max-dop", "5", "--dop", "GPS DOP"], "id,date,x,y,gps-dop,GPS DOP", NO_RECORD),
+    (["--time", "date"], "id,Date,x,y,date", NO_RECORD),
     (["--time", "day,clock"], "id,day,clock,x,y, clock", "column 3 'clock' and column 6 'clock' both fit the time: rename one"),
     (["--easting", "a", "--northing", "b"], "id,date,a,b,b", "column 4 'b' and column 5 'b' both fit the northing: rename one"),
     ([], "animal,second,easting,northing,Visible,VISIBLE", "column 5 'Visible' and column 6 'VISIBLE' both fit visible: rename one"),
@@ -146,21 +147,21 @@ REFUSED = [
     (["--lon", "lonE7", "--lat", "latE7"], "id,date,lonE7,latE7", f"column 3 'lonE7' says E7{DEGREES}"),
     (["--lon", "lon (1e-7)", "--lat", "lat"], "id,date,lon (1e-7),lat", f"column 3 'lon (1e-7)' says e-7{DEGREES}"),
     (["--lon", "lon (ms)", "--lat", "lat"], "id,date,lon (ms),lat", f"column 3 'lon (ms)' says ms{DEGREES}"),
-    *((["--easting", f"x {word}", "--northing", "y"], f"id,date,x {word},y", "there is no record below the titles") for word in (
+    *((["--easting", f"x {word}", "--northing", "y"], f"id,date,x {word},y", NO_RECORD) for word in (
         "(m)", "[metres]", "(UTM)", "(UTM 33N)", "{EPSG:2154}", "(Mètres)", "(raw)", "perimeter", "milestone", "()", "(°)")),
-    *((["--lon", f"lon {word}", "--lat", "lat"], f"id,date,lon {word},lat", "there is no record below the titles") for word in (
+    *((["--lon", f"lon {word}", "--lat", "lat"], f"id,date,lon {word},lat", NO_RECORD) for word in (
         "(deg)", "[°]", "(WGS84)", "(decimal degrees)", "(E)", "graduate", "E12", "e_7")),
     ([], "id,date,easting,northing,Easting,Northing", "column 3 'easting' and column 5 'Easting' both fit the easting: name one, as by --easting easting"),
-    ([], "id,date,x,y,X,Y", "there is no record below the titles"),
-    ([], "id,date,easting,northing,Easting", "there is no record below the titles"),
+    ([], "id,date,x,y,X,Y", NO_RECORD),
+    ([], "id,date,easting,northing,Easting", NO_RECORD),
     ([], "id,date,longitude,latitude,Longitude,Latitude", "column 3 'longitude' and column 5 'Longitude' both fit the longitude: name one, as by --lon longitude"),
-    (["--lon", "longitude", "--lat", "latitude"], "id,date,longitude,latitude,Longitude,Latitude", "there is no record below the titles"),
-    ([], "id,date,x,y,X", "there is no record below the titles"),
+    (["--lon", "longitude", "--lat", "latitude"], "id,date,longitude,latitude,Longitude,Latitude", NO_RECORD),
+    ([], "id,date,x,y,X", NO_RECORD),
     *(([], f"id,date,x,y,{title}", f"column 5 '{title}' may have marks, but is not read: rename or remove it{NO_MARKS}") for title in (
         "Outlier (y/n)", "outlier?", "outlier_flag", "flagOutlier", "visible (Movebank)", "isInvalid", "is.valid.fix", "outlier1", "Ausreißer")),
-    *(([], f"id,date,x,y,{title}", "there is no record below the titles") for title in (
+    *(([], f"id,date,x,y,{title}", NO_RECORD) for title in (
         "argos:valid-location-algorithm", "outlier comments", "validity", "visibility", "invalidated", "visible satellites", "satsVisible")),
-    ([], "id,date,x,y,use,outlier_flag", "there is no record below the titles"),
+    ([], "id,date,x,y,use,outlier_flag", NO_RECORD),
     (["--time", "UTC -11"], "id,UTC -11,lon,lat", f"column 2 'UTC -11' says UTC -11{UTC}Etc/GMT+11"),
     (["--time", "day,Local.time"], "id,day,Local.time,lon,lat", f"column 3 'Local.time' says Local{UTC}Europe/Ljubljana"),
     (["--from", "vectronic", "--time", "LMT_Date,LMT_Time", "--time-format", "%d.%m.%Y %H:%M:%S"], "AnimalID,CollarID,LMT_Date,LMT_Time,Longitude,Latitude",
@@ -243,13 +244,17 @@ OF_UTC = [
     ("time (Etc/UTC)", "Etc/UTC"), ("Etc/GMT", "Etc/GMT"), ("time etc/gmt+0", "etc/gmt+0"), ("time [Etc/Zulu]", "Etc/Zulu"), ("time (+0)", "+0"),
     ("time +00:00", "+00:00"), ("time -00:00", "-00:00"), ("time (-0)", "-0"), ("time {+0000}", "+0000"), ("UTC (+0)", "UTC"), ("UTC+0", "UTC"),
     ("time (Z)", "Z"), ("time UTC - 2024", "UTC"), ("utc plus", "utc"), ("timeUTC", "UTC"), ("time_utc_24", "utc"), ("time..UTC.0.", "UTC"),
+    ("Sommerzeit (UTC)", "UTC"), ("Mountain time (UTC)", "UTC"), ("time UTC (Eisenstadt)", "UTC"), ("time (Zulu)", "Zulu"), ("Universal time", "Universal"),
+    ("Greenwich Mean Time", "Greenwich"),
 ]
 # Titles of times that say no clock.
 NO_CLOCKS = [
     "x+1", "time-2", "fix-1", "date_2024-05-01", "+3", "time+02:00", "time_+3", "time -2", "time -0530", "time - 05:00", "time + 2",
     "date 2024 -05-01", "time +02:00:00", "time (+15)", "time +2:60", "time (+123)", "time (-9999)", "time +2hours", "time (+2-3)", "time +5.3", "time (+5.)",
     "time_z", "z", "cat", "time cat", "EAT", "Ist", "ist_zeit", "Art", "pet_time", "cot", "time west", "wet time", "Ast", "Pkt.Zeit", "best time", "time/Asia",
-    "Date (EU/US)", "date/time", "Asia/2024", "Asia", "Eurasia/Vienna",
+    "Date (EU/US)", "date/time", "Asia/2024", "Asia", "Eurasia/Vienna", "time (raw)", "time (GPS)", "time [sensor]", "time..raw.", "GPS Fix Time", "start time",
+    "time (s)", "time (fix)", "Date (YYYYMMDD)", "Datum (TTMMJJJJ)", "Time (hhmm)", "timestamp (ISO)", "time (posixct)", "standardized time", "time standard",
+    "summer", "winter_date", "vienna_fix", "Date...Time.", "time.", "date (d)", "central_fix",
 ]
 # Titles of times that say a clock, by which word, another zone that is named, and the zone of the remedy.
 OTHER_CLOCKS = [
@@ -259,12 +264,67 @@ OTHER_CLOCKS = [
     ("time (UTC + 2)", "UTC + 2", "Etc/GMT+5", "Etc/GMT-2"), ("time (UTC + 2)", "UTC + 2", "Etc/GMT+2", "Etc/GMT-2"),
     ("time..UTC.2.", "UTC.2", "Etc/GMT-3", None), ("time (UTC+5:30)", "UTC+5:30", "Etc/GMT-5", None), ("time (CEST)", "CEST", "UTC", EXAMPLE),
 ]
+# Titles of times that say the clock of a season or of a place, and by which word.
+PLACES = [
+    ("Sommerzeit", "Sommerzeit"), ("Winterzeit", "Winterzeit"), ("summer time", "summer"), ("time (winter)", "winter"), ("Zeit_Sommer", "Sommer"),
+    ("daylight time", "daylight"), ("standard time", "standard"), ("StandardTime", "Standard"), ("heure d'été", "été"), ("Heure d'hiver", "hiver"),
+    ("hora de verano", "verano"), ("Pacific time", "Pacific"), ("Mountain time", "Mountain"), ("time (Central)", "Central"), ("Central", "Central"),
+    ("Eastern", "Eastern"), ("timestamp_eastern", "eastern"), ("Alaska time", "Alaska"), ("Atlantic Date", "Atlantic"), ("Vienna time", "Vienna"),
+    ("time (Vienna)", "Vienna"), ("time..Vienna.", "Vienna"), ("Berlin", "Berlin"), ("Uhrzeit Wien", "Wien"), ("time (Los Angeles)", "Angeles"),
+    ("Fecha (Santiago)", "Santiago"), ("time (Eisenstadt)", "Eisenstadt"), ("time (Österreich)", "Österreich"), ("time..Eisenstadt.", "Eisenstadt"),
+    ("time [ Kaffeklubben ]", "Kaffeklubben"), ("(Eisenstadt)", "Eisenstadt"), ("time (IST)", "IST"), ("time (EAT)", "EAT"), ("date (solar)", "solar"),
+]
+# Such titles, whose clock may be that of UTC.
+OF_LANDS = [("hora oficial", "oficial"), ("Official time", "Official"), ("ora legale", "legale"), ("heure légale", "légale"), ("civil time", "civil")]
+# Titles of longitudes that say the west, and of latitudes that say the south, and by which word.
+LONGITUDES = [
+    ("Longitude West", "West"), ("longitude_W", "W"), ("Lon (W)", "W"), ("Long W", "W"), ("degrees west", "west"), ("Westing", "Westing"), ("lon_w", "w"),
+    ("Lon (°W)", "W"), ("W", "W"), ("°W", "W"), ("W Longitude", "W"), ("Long. W.", "W"), ("Lon..W.", "W"), ("lonWest", "West"), ("lon_w_dd", "w"),
+    ("Longitude (Western hemisphere)", "Western"), ("degrees west of Greenwich", "west"), ("Longitud Oeste", "Oeste"), ("longitude ouest", "ouest"),
+    ("Longitudine (ovest)", "ovest"), ("Länge westlich", "westlich"), ("Longitude (O)", "O"), ("Longitud O", "O"), ("Longitude W (Garmin)", "W"),
+    ("Longitude West [deg]", "West"), ("West", "West"), ("lon (positive W)", "W"), ("longitude (west of Greenwich)", "west"), ("lon west WGS84", "west"), ("Lon W GPS", "W"), ("southing", "southing"),
+]
+LATITUDES = [
+    ("Latitude South", "South"), ("lat_S", "S"), ("lat_s", "s"), ("Lat (°S)", "S"), ("Lat (deg S)", "S"), ("Southing", "Southing"), ("S", "S"),
+    ("South latitude", "South"), ("Breite (südlich)", "südlich"), ("Breite Süd", "Süd"), ("latitud sur", "sur"), ("Latitude Sul", "Sul"), ("latitude sud", "sud"),
+    ("Lat..S.", "S"), ("latSouth", "South"), ("Lat S dd", "S"), ("southern latitude", "southern"), ("lat (sued)", "sued"),
+]
+# Titles of eastings that say the west or the south, and of northings.
+EASTINGS = [("Westing", "Westing"), ("westings (m)", "westings"), ("x_west", "west"), ("X (West)", "West"), ("Easting (West)", "West"), ("x ouest", "ouest"), ("Southing", "Southing")]
+NORTHINGS = [("Southing", "Southing"), ("y (south)", "south"), ("coord_y_south_m", "south"), ("Y süd", "süd"), ("westing", "westing")]
+# Titles of two coordinates that say no such side.
+NO_SIDES = [
+    ("lon", "lon_wgs84", "lat_wgs84"), ("lon", "lon_s", "lat_s"), ("lon", "lon_W", "lat_W"), ("lon", "Lon (E/W)", "Lat (N/S)"), ("lon", "lon_deg", "lat_deg"),
+    ("lon", "Longitude (East or West)", "Latitude (North or South)"), ("lon", "lon (west negative)", "lat (minus = south)"), ("lon", "lon s.d.", "lat s.d."),
+    ("lon", "lon West Papua", "lat South Georgia"), ("lon", "Länge (O)", "Breite (N)"), ("lon", "lon_s1", "lat_s1"), ("lon", "longitude WGS", "latitude WGS"),
+    ("easting", "x_swiss", "y_swiss"), ("easting", "X South Africa", "Y South Africa"), ("easting", "x_W", "y_S"), ("easting", "x_s", "y_s"),
+    ("easting", "Easting (UTM 36 South)", "Northing (UTM 36 South)"), ("easting", "x_lambert_sud", "y_lambert_sud"), ("easting", "x_west_coast", "y_south_coast"),
+    ("easting", "Easting/Westing", "Northing/Southing"), ("easting", "x west camera", "y sur carte"),
+]
+# Titles of coordinates in metres, and in degrees, that say a multiple or a part of their unit, and how.
+MULTIPLES = [
+    ("E_100m", "100m"), ("x (10 m)", "10 m"), ("x1000", "x1000"), ("easting (x 100)", "x 100"), ("northing [100 m]", "100 m"), ("in 100 m", "100 m"),
+    ("X_10cm", "cm"), ("x (1000)", "1000"), ("x*100", "*100"), ("x × 10", "× 10"), ("easting/1000", "/1000"), ("x (m/10)", "/10"), ("x (1/10 m)", "10 m"),
+    ("x (0.1 m)", "0.1 m"), ("x 1.000 m", "1.000 m"), ("x 10^3", "10^3"), ("x 1e3", "1e3"), ("x (10³)", "10³"), ("x 10**-2", "10**-2"), ("y x10", "x10"),
+    ("easting (hundreds of m)", "hundreds"), ("x..10.m.", "10.m"), ("easting..x.100.", "x.100"), ("x 10 metres", "10 metres"), ("x_10_m", "10_m"), ("x X10", "X10"),
+]
+MULTIPLES_OF_DEGREES = [
+    ("lat x10^7", "10^7"), ("lon*1e6", "e6"), ("lon*1000", "*1000"), ("lon (1000 deg)", "1000 deg"), ("lon (100°)", "100°"), ("lon_x_1000", "x_1000"),
+    ("lon (millionths)", "millionths"), ("lon·100", "·100"), ("lon 10⁷", "10⁷"),
+]
+# Titles of coordinates in metres that say none.
+NO_MULTIPLES = [
+    "x1", "x2", "x_utm33", "X_3857", "utm_x_100", "x_25833", "coord.x1", "x_utm10_m", "Easting UTM10 (m)", "UTM zone 10 m", "x_1000", "x10", "E_25m", "x (1 m)",
+    "x 2.10 m", "x 01/10/2024", "x 1.0 m", "x_10_mean", "10th x",
+]
 # Options and titles of times that are taken, with or without them.
 TAKEN = [
     *(([], title) for title in NO_CLOCKS),
     *((options, title) for title, _ in OF_UTC for options in ([], ["--tz", "UTC"], ["--tz", "Etc/GMT"])),
     *((["--tz", zone if "/" in word else "Africa/Nairobi"], title) for title, word, zone in CLOCKS if zone and word != "europe/vienna"),
     *((["--tz", "Africa/Nairobi"], title) for title, _, zone in CLOCKS if zone is None),
+    *((["--tz", zone], title) for title, _ in [*PLACES, *OF_LANDS] for zone in ("Europe/Vienna", "America/New_York")),
+    *((["--tz", "UTC"], title) for title, _ in OF_LANDS),
     (["--tz", "Etc/GMT-2"], "time (UTC+2)"), (["--tz", "UTC"], "local time"), (["--tz", "UTC"], "heure locale"), (["--tz", "Etc/GMT-2"], "utc_plus_2"), (["--tz", "Etc/GMT+2"], "time..UTC.2."),
     (["--tz", "Etc/GMT-2"], "time..UTC.2."), (["--tz", "Etc/GMT+11"], "time {Etc/GMT+11}"),
 ]
@@ -280,8 +340,41 @@ def of_clocks():
     for title, word, zone, own in OTHER_CLOCKS:
         yield (["--time", title, "--tz", zone], title,
                f"column 2 '{title}' says {word}, and --tz is {zone}{f': name its own zone, as by --tz {own}' if own else OFFSET}, or rename the column")
+    for title, word in [*PLACES, *OF_LANDS]:
+        yield ["--time", title], title, f"column 2 '{title}' says {word}{UTC}{EXAMPLE}, or rename the column"
+    for title, word in PLACES:
+        yield (["--time", title, "--tz", "UTC"], title,
+               f"column 2 '{title}' says {word}, and --tz is UTC: name its own zone, as by --tz {EXAMPLE}, or rename the column")
     for options, title in TAKEN:
-        yield ["--time", title, *options], title, "there is no record below the titles"
+        yield ["--time", title, *options], title, NO_RECORD
+
+
+def named(first, one, other):
+    """The options that name two columns of coordinates, of which the first is of this option, and the titles of a table with them."""
+    second = {"lon": "lat", "easting": "northing"}[first]
+    return [f"--{first}", one, f"--{second}", other], f"id,date,{one},{other}"
+
+
+def of_sides():
+    """The refusals of titles of coordinates that say another side, and pairs of titles that are taken."""
+    for first, name, is_second, cases in (("lon", "longitudes", False, LONGITUDES), ("lon", "latitudes", True, LATITUDES),
+                                          ("easting", "eastings", False, EASTINGS), ("easting", "northings", True, NORTHINGS)):
+        for title, word in cases:
+            side = f"column {3 + is_second} '{title}' says {word}, and {name} are counted to the {'north' if is_second else 'east'}"
+            yield (*named(first, *(("a", title) if is_second else (title, "b"))),
+                   f"{side}: turn the signs of its numbers, unless they are counted so already, and rename the column")
+    for first, one, other in NO_SIDES:
+        yield *named(first, one, other), NO_RECORD
+
+
+def of_multiples():
+    """The refusals of titles of coordinates that say a multiple of their unit, and titles that are taken."""
+    for title, said in MULTIPLES:
+        yield *named("easting", title, "b"), f"column 3 '{title}' says {said}{METRES}"
+    for title, said in MULTIPLES_OF_DEGREES:
+        yield *named("lon", title, "b"), f"column 3 '{title}' says {said}{DEGREES}"
+    for title in NO_MULTIPLES:
+        yield *named("easting", title, "b"), NO_RECORD
 
 
 def fault(program, options, titles, line):
@@ -295,7 +388,8 @@ def fault(program, options, titles, line):
 
 def faults(program):
     """Each case with how the program does not do what it wants; None where it does."""
-    for options, titles, line in (*REFUSED, *((options, f"id,{title},lon,lat", line) for options, title, line in of_clocks())):
+    clocks = ((options, f"id,{title},lon,lat", line) for options, title, line in of_clocks())
+    for options, titles, line in (*REFUSED, *of_sides(), *of_multiples(), *clocks):
         yield f"titles {' '.join([*options, titles])}", fault(program, options, titles, line)
 
 

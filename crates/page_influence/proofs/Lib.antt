@@ -1,0 +1,5 @@
+pub mod Count
+pub mod Layers
+pub mod Least
+pub mod Rest
+pub mod Steps

@@ -1,0 +1,3 @@
+pub mod Influence
+pub mod Laws
+pub mod Layers

@@ -1,0 +1,229 @@
+// The sides of the Earth that texts of columns that are not read say.
+
+use split_titles::has_word;
+
+// Words for sides, beside their letters.
+const NORTHS: [&str; 9] = [
+    "north",
+    "northern",
+    "nord",
+    "norte",
+    "norden",
+    "noord",
+    "nördlich",
+    "sever",
+    "pohjoinen",
+];
+
+const SOUTHS: [&str; 11] = [
+    "south", "southern", "sud", "süd", "sued", "süden", "südlich", "sur", "sul", "zuid", "syd",
+];
+
+const EASTS: [&str; 10] = [
+    "east", "eastern", "est", "este", "leste", "ost", "osten", "oost", "östlich", "vzhod",
+];
+
+const WESTS: [&str; 10] = [
+    "west", "western", "westen", "westlich", "ouest", "oeste", "ovest", "vest", "väst", "zahod",
+];
+
+// Words that stand behind one for a side.
+const BEHIND: [&str; 8] = [
+    "hemisphere",
+    "hemi",
+    "hemisphäre",
+    "latitude",
+    "longitude",
+    "lat",
+    "lon",
+    "degrees",
+];
+
+// Words of titles of places and groups, which are called by a side too, as are slopes.
+const PLACES: [&str; 48] = [
+    "site",
+    "sites",
+    "area",
+    "areas",
+    "region",
+    "regions",
+    "plot",
+    "plots",
+    "population",
+    "populations",
+    "subpopulation",
+    "pop",
+    "herd",
+    "herds",
+    "pack",
+    "packs",
+    "group",
+    "groups",
+    "colony",
+    "study",
+    "habitat",
+    "camp",
+    "transect",
+    "block",
+    "sector",
+    "district",
+    "county",
+    "province",
+    "state",
+    "country",
+    "locality",
+    "place",
+    "park",
+    "reserve",
+    "valley",
+    "slope",
+    "aspect",
+    "exposure",
+    "stratum",
+    "strata",
+    "name",
+    "label",
+    "comment",
+    "comments",
+    "notes",
+    "gebiet",
+    "standort",
+    "zona",
+];
+
+// A side of the Earth.
+#[derive(Clone, Copy, PartialEq, Eq)]
+enum Side {
+    North,
+    South,
+    East,
+    West,
+    // The letter O, which is the east in some languages, and in others the west.
+    O,
+}
+
+// Whether a column of this title may name places or groups, which are called by sides too.
+fn has_places(title: &[u8]) -> bool {
+    has_word(title, &PLACES)
+}
+
+// The side that a letter is.
+fn side_of_letter(letter: u8) -> Option<Side> {
+    match letter {
+        b'N' | b'n' => Some(Side::North),
+        b'S' | b's' => Some(Side::South),
+        b'E' | b'e' => Some(Side::East),
+        b'W' | b'w' => Some(Side::West),
+        b'O' | b'o' => Some(Side::O),
+        _ => None,
+    }
+}
+
+// The side that a word is.
+fn side_of_word(word: &[u8]) -> Option<Side> {
+    if has_word(word, &NORTHS) {
+        Some(Side::North)
+    } else if has_word(word, &SOUTHS) {
+        Some(Side::South)
+    } else if has_word(word, &EASTS) {
+        Some(Side::East)
+    } else if has_word(word, &WESTS) {
+        Some(Side::West)
+    } else {
+        None
+    }
+}
+
+// The first word of a text, without a point, if it stands alone or before a word that may stand behind a side; or else none.
+fn first_of(text: &[u8]) -> &[u8] {
+    let text = text.trim_ascii();
+    let end = text.iter().position(|byte| *byte == b' ');
+    let (first, rest) = text.split_at(end.unwrap_or(text.len()));
+    if rest.is_empty() || has_word(rest, &BEHIND) {
+        first.strip_suffix(b".").unwrap_or(first)
+    } else {
+        b""
+    }
+}
+
+// The side that a text says: by a letter, or by a word where no places or groups are called so.
+fn side_of(text: &[u8], are_places: bool) -> Option<Side> {
+    match text {
+        [letter] => side_of_letter(*letter),
+        _ if are_places => None,
+        _ => match first_of(text) {
+            [letter] => side_of_letter(*letter),
+            word => side_of_word(word),
+        },
+    }
+}
+
+// Whether a side is that of degrees below 0, of degrees above 0.
+fn is_against(side: Option<Side>, degrees: Option<(i64, i64)>) -> bool {
+    match (side, degrees) {
+        (Some(Side::South), Some((_, latitude))) => latitude > 0,
+        (Some(Side::West), Some((longitude, _))) => longitude > 0,
+        _ => false,
+    }
+}
+
+// Whether a side is `O`, of a longitude above 0.
+fn may_be_against(side: Option<Side>, degrees: Option<(i64, i64)>) -> bool {
+    match (side, degrees) {
+        (Some(Side::O), Some((longitude, _))) => longitude > 0,
+        _ => false,
+    }
+}
+
+/// Which sides all texts of a column say that are not missing.
+#[derive(Clone, Copy, PartialEq, Eq, Debug)]
+pub(crate) struct Sides {
+    // Whether the column may have names of places, which are called by sides too.
+    are_places: bool,
+    // Whether all are north or south, and whether all are east or west.
+    are_of_latitude: bool,
+    are_of_longitude: bool,
+    // Whether one is south or west of a latitude or a longitude above 0; whether one is `O` of such a longitude, and whether one is east.
+    is_against: bool,
+    may_be_against: bool,
+    has_east: bool,
+}
+
+impl Sides {
+    /// Those of no text, of a column of this title.
+    pub(crate) fn none(title: &[u8]) -> Sides {
+        Sides {
+            are_places: has_places(title),
+            are_of_latitude: true,
+            are_of_longitude: true,
+            is_against: false,
+            may_be_against: false,
+            has_east: false,
+        }
+    }
+
+    /// The same with one text more, of a record with these degrees, or without coordinates.
+    pub(crate) fn with(self, text: &[u8], degrees: Option<(i64, i64)>) -> Sides {
+        let side = side_of(text, self.are_places);
+        let is_of_latitude = matches!(side, Some(Side::North | Side::South));
+        let is_of_longitude = matches!(side, Some(Side::East | Side::West | Side::O));
+        Sides {
+            are_places: self.are_places,
+            are_of_latitude: self.are_of_latitude && is_of_latitude,
+            are_of_longitude: self.are_of_longitude && is_of_longitude,
+            is_against: self.is_against || is_against(side, degrees),
+            may_be_against: self.may_be_against || may_be_against(side, degrees),
+            has_east: self.has_east || side == Some(Side::East),
+        }
+    }
+
+    /// Whether all are sides of one kind.
+    pub(crate) fn are_some(&self) -> bool {
+        self.are_of_latitude || self.are_of_longitude
+    }
+
+    /// Whether they say that latitudes are south or longitudes west, which have no minus.
+    pub(crate) fn are_against(&self) -> bool {
+        self.are_some() && (self.is_against || self.may_be_against && self.has_east)
+    }
+}

@@ -1,0 +1,123 @@
+// The form of a time that stands in several columns, by their titles and texts.
+
+use crate::digits::are_digits;
+use crate::forms::has_form;
+use range_plane::OutOfMemory;
+use split_titles::comes_to;
+use std::alloc::Global;
+
+// Titles of parts of a time, by the sign that stands for them in a form.
+const YEARS: [&str; 7] = ["year", "yr", "yyyy", "jahr", "annee", "ano", "anno"];
+
+const MONTHS: [&str; 7] = ["month", "mon", "mm", "monat", "mois", "mes", "mese"];
+
+const DAYS: [&str; 6] = ["day", "dd", "tag", "jour", "dia", "giorno"];
+
+const DAYS_OF_YEARS: [&str; 10] = [
+    "julian",
+    "julianday",
+    "julian-day",
+    "julday",
+    "jday",
+    "doy",
+    "yday",
+    "dayofyear",
+    "day-of-year",
+    "tag-des-jahres",
+];
+
+const HOURS: [&str; 9] = [
+    "hour", "hours", "hr", "hrs", "hh", "stunde", "heure", "hora", "ora",
+];
+
+const MINUTES: [&str; 6] = ["minute", "minutes", "min", "mins", "mi", "minuto"];
+
+const SECONDS: [&str; 6] = ["second", "seconds", "sec", "secs", "ss", "sekunde"];
+
+// Whether a title comes to one of these.
+fn is_one_of(title: &[u8], titles: &[&str]) -> bool {
+    titles.iter().any(|own| comes_to(title, own.as_bytes()))
+}
+
+// The sign of a form that a title stands for, above numbers.
+fn sign_of_title(title: &[u8]) -> Option<&'static str> {
+    if is_one_of(title, &YEARS) {
+        Some("%Y")
+    } else if is_one_of(title, &MONTHS) {
+        Some("%m")
+    } else if is_one_of(title, &DAYS) {
+        Some("%d")
+    } else if is_one_of(title, &DAYS_OF_YEARS) {
+        Some("%j")
+    } else if is_one_of(title, &HOURS) {
+        Some("%H")
+    } else if is_one_of(title, &MINUTES) {
+        Some("%M")
+    } else if is_one_of(title, &SECONDS) {
+        Some("%S")
+    } else {
+        None
+    }
+}
+
+// The form of a day or a clock that a text has.
+fn sign_of_text(text: &[u8]) -> Option<&'static str> {
+    if has_form(text, b"0000-00-00") {
+        Some("%Y-%m-%d")
+    } else if has_form(text, b"00.00.0000") {
+        Some("%d.%m.%Y")
+    } else if has_form(text, b"00:00") || has_form(text, b"0:00") {
+        Some("%H:%M")
+    } else if has_form(text, b"00:00:00") || has_form(text, b"0:00:00") {
+        Some("%H:%M:%S")
+    } else {
+        None
+    }
+}
+
+/// The sign or form that stands for a column in that of a time which it has with others, by its title and one of its texts, such as
+/// `%H` for `Hour` above `7`; none where neither says it.
+pub fn sign_of(title: &[u8], text: &[u8]) -> Option<&'static str> {
+    if !are_digits(text) {
+        return sign_of_text(text);
+    }
+    match sign_of_title(title) {
+        None | Some("%H") if text.len() == 4 => Some("%H%M"),
+        Some("%Y") if text.len() < 3 => Some("%y"),
+        sign => sign,
+    }
+}
+
+// Whether a form has a year and a day in it.
+fn has_day(form: &str) -> bool {
+    let has_year = form.contains("%Y") || form.contains("%y");
+    has_year && (form.contains("%j") || form.contains("%m") && form.contains("%d"))
+}
+
+/// The form of a time that stands in columns with these titles, of which one record has these texts; none where it is not known, or
+/// has no day.
+///
+/// # Errors
+///
+/// Memory ran out.
+pub fn form_of_columns(
+    alloc: Global,
+    titles: &[&[u8]],
+    texts: &[&[u8]],
+) -> Result<Option<String>, OutOfMemory> {
+    let mut form = String::new(alloc);
+    for (title, text) in titles.iter().zip(texts) {
+        let Some(sign) = sign_of(title, text) else {
+            return Ok(None);
+        };
+        if form.contains(sign) {
+            return Ok(None);
+        }
+        if !form.is_empty() {
+            form.push_str(" ")?;
+        }
+        form.push_str(sign)?;
+    }
+    let is_whole = titles.len() == texts.len() && has_day(&form);
+    Ok(if is_whole { Some(form) } else { None })
+}

@@ -1,0 +1,108 @@
+"""Reference systems that mislead: axes that go west or south, and grids on which lengths differ by direction."""
+import numpy
+import pandas
+import pytest
+from frames import START, quietly
+
+from homerange import FrameError, home_range, read_fixes
+
+geopandas = pytest.importorskip("geopandas")
+pyproj = pytest.importorskip("pyproj")
+
+WAY = [(0, 0), (0.004, 0.001), (-0.003, 0.006), (0.001, -0.005), (0.002, 0.002)]  # degrees around a place
+
+
+def degrees_at(longitude, latitude):
+    """Points around a place, in longitude and latitude."""
+    places = geopandas.points_from_xy(*zip(*((longitude + east, latitude + north) for east, north in WAY)))
+    times = pandas.date_range(START, periods=len(WAY), freq="h")
+    return geopandas.GeoDataFrame({"animal": "lynx", "timestamp": times}, geometry=places, crs=4326)
+
+
+def columns_of(points):
+    """Points as eastings and northings in columns."""
+    return points[["animal", "timestamp"]].assign(easting=points.geometry.x, northing=points.geometry.y)
+
+
+def refusals_of(points, crs):
+    """How points are refused, and the same places in columns, whose reference system is named."""
+    for call in (lambda: read_fixes(points), lambda: read_fixes(pandas.DataFrame(columns_of(points)), crs=crs)):
+        with pytest.raises(FrameError) as fault:
+            call()
+        yield fault.value.kind, str(fault.value)
+
+
+@pytest.mark.parametrize("crs, place, name, ways", [
+    ("EPSG:2048", (19, -33), "Hartebeesthoek94 / Lo19", ("west", "south")),
+    ("EPSG:5513", (15, 50), "S-JTSK / Krovak", ("south", "west")),
+    ("+proj=tmerc +lon_0=-19 +axis=wnu +ellps=GRS80", (-19, 65), "unknown", ("west", "north")),
+    ("+proj=tmerc +lon_0=-19 +axis=esu +ellps=GRS80", (-19, 65), "unknown", ("east", "south"))])
+def test_axes_that_go_west_or_south_are_refused(crs, place, name, ways):
+    degrees = degrees_at(*place)
+    points = degrees.to_crs(crs)
+    said = f"the axes of the CRS {name} go {ways[0]} and {ways[1]}, and not east and north: "
+    columns = f"make points of its columns and project these first, as by geopandas.points_from_xy({ways[0]}ings, {ways[1]}ings, crs=..) and to_crs"
+    assert [*refusals_of(points, crs)] == [("crs", f"{said}project it first, as by frame.to_crs(frame.estimate_utm_crs())"), ("crs", f"{said}{columns}")]
+    # What is said to help gives the ranges of the same places in degrees.
+    wanted = quietly(home_range, degrees).corners()
+    assert quietly(home_range, points.to_crs(points.estimate_utm_crs())).corners() == wanted
+    table = columns_of(points)
+    again = geopandas.GeoDataFrame(table[["animal", "timestamp"]], geometry=geopandas.points_from_xy(table["easting"], table["northing"], crs=crs))
+    assert quietly(home_range, again.to_crs(again.estimate_utm_crs())).corners() == wanted
+
+
+def test_axes_of_a_site_that_go_west_are_refused():
+    site = 'ENGCRS["plant",EDATUM["plant"],CS[Cartesian,2],AXIS["y",west],AXIS["x",{}],LENGTHUNIT["metre",1]]'
+    points = degrees_at(19, 50).to_crs(32634)
+    for way in ("north", "south"):
+        turned = points.set_crs(site.format(way), allow_override=True)
+        assert {*refusals_of(turned, site.format(way))} == {
+            ("crs", f"the axes of the CRS plant go west and {way}, and not east and north: make eastings and northings of its coordinates, which "
+                    "need no CRS")}
+
+
+def test_axes_around_a_pole_and_negative_eastings_are_taken():
+    arctic = degrees_at(15, 71).to_crs(3995)  # whose axes both go south
+    assert len(quietly(read_fixes, arctic)) == len(quietly(read_fixes, columns_of(arctic), crs=3995)) == len(WAY)
+    krovak = degrees_at(15, 50).to_crs(5514)  # eastings and northings, which are below 0
+    assert quietly(read_fixes, krovak)["easting"].max() < 0
+
+
+def by_geodesics(crs, middle):
+    """By how many per cent areas are too great at a place of a grid, and by how many lengths differ there by direction: by geodesics
+    between places that lie on a circle of the grid, and the area of a square of it."""
+    back = pyproj.Transformer.from_crs(crs, 4326, always_xy=True)
+    angles = numpy.arange(0, 2 * numpy.pi, numpy.pi / 1800)
+    circle = back.transform(middle[0] + 300 * numpy.cos(angles), middle[1] + 300 * numpy.sin(angles))
+    earth = pyproj.Geod(ellps="WGS84")
+    lengths = earth.inv(*(side[:1800] for side in circle), *(side[1800:] for side in circle))[2]
+    square = back.transform(middle[0] + 300 * numpy.array([-1, 1, 1, -1]), middle[1] + 300 * numpy.array([-1, -1, 1, 1]))
+    return 100 * (600 ** 2 / abs(earth.polygon_area_perimeter(*square)[0]) - 1), 100 * (lengths.max() / lengths.min() - 1)
+
+
+GRIDS = [
+    ("EPSG:3035", (16.4, 48.2)), ("EPSG:3035", (-6.4, 37)), ("EPSG:3035", (27, 70)), ("EPSG:3035", (-16.6, 28.3)), ("EPSG:3577", (146.8, -43.5)),
+    ("EPSG:5070", (-81.4, 25.2)), ("EPSG:3338", (-156.7, 71.2)), ("EPSG:6933", (20, 30.2)), ("EPSG:6933", (20, 31)), ("EPSG:6933", (16, 48)),
+    ("ESRI:54009", (31, -24)), ("EPSG:8857", (16, 48)), ("+proj=laea +lat_0=45 +lon_0=-100 +R=6370997", (-115, 47)),
+    ("+proj=tmerc +lon_0=15 +ellps=GRS80", (16.5, 46)), ("+proj=laea +lat_0=0 +lon_0=179.9995 +ellps=GRS80", (179.9999, 18))]
+
+
+@pytest.mark.parametrize("crs, place", GRIDS)
+def test_areas_and_lengths_are_told_as_geodesics_have_them(crs, place):
+    points = degrees_at(*place).to_crs(crs)
+    middle = points.geometry.x.mean(), points.geometry.y.mean()
+    areas, lengths = by_geodesics(crs, middle)
+    wanted = [f"areas of lynx are {abs(areas):.2f} % too {'great' if areas > 0 else 'small'} on this grid"] if abs(areas) > 0.1 else []
+    wanted += [f"lengths of lynx differ by up to {lengths:.2f} % by direction on this grid"] if lengths > 1 else []
+    if lengths > 10:
+        refusal = ("scale", f"{wanted[-1]}: take a zone or a reference system of the place")
+        assert [*refusals_of(points, crs)] == [refusal, refusal]
+    else:
+        for fixes in (quietly(read_fixes, points), quietly(read_fixes, columns_of(points), crs=crs)):
+            assert [note for note in fixes.reading.notes if note.endswith("on this grid")] == wanted
+
+
+def test_lengths_of_the_animal_where_they_differ_most_are_told():
+    both = pandas.concat([degrees_at(10, 52), degrees_at(-6.4, 37).assign(animal="boar"), degrees_at(-4, 57).assign(animal="hare")]).to_crs(3035)
+    notes = quietly(read_fixes, both).reading.notes
+    assert [note.split(" differ")[0] for note in notes if note.endswith("on this grid")] == ["lengths of boar"]

@@ -1,0 +1,154 @@
+# What helps in R where the program refuses a time that is counted or written otherwise, a number, a type of fixes, or an option. Of a frame
+# its columns are known, of a file none are.
+
+titles_of_types <- c("gps-fix-type", "fix-type", "fixtype", "fix-status", "fixstatus", "type-of-fix")
+parts_since_1970 <- list("13" = c("milliseconds", "1e3"), "16" = c("microseconds", "1e6"), "19" = c("nanoseconds", "1e9"))  # by their digits
+sign_helps <- c("%OS" = "%S has the decimals of seconds: write it for %OS", "%T" = "%H:%M:%S stands for %T", "%F" = "%Y-%m-%d stands for %F",
+                "%R" = "%H:%M stands for %R", "%e" = "%d stands for %e",
+                "%z" = "a form has no offset: make moments of its texts, as by as.POSIXct(.., format = .., tz = \"UTC\")",
+                "%B" = "make moments of its texts, as by as.POSIXct(.., format = .., tz = \"UTC\")")
+
+# The titles of a frame; none of a file.
+titles_in <- function(frame) readable(as.character(names(frame$x)))
+
+# Whether a column has clocks without their colon, such as 30, 130 and 1330, some of which have lost zeros.
+has_short_clocks <- function(column, title) {
+  if (is.null(column)) return(FALSE)
+  cells <- cells_of_column(column, title)
+  cells <- cells[nzchar(cells)]
+  if (!length(cells) || !all(grepl("^[0-9]{1,4}$", cells))) return(FALSE)
+  numbers <- as.numeric(cells)
+  all(numbers < 2400 & numbers %% 100 < 60) && max(numbers) >= 100 && any(nchar(cells) < 4)
+}
+
+# A time that is joined of a day and a clock without its zeros, or of a day and hours with decimals.
+help_for_time <- function(found, frame) {
+  titles <- titles_of_time(frame)
+  cells <- strsplit(found[4], " ", fixed = TRUE)[[1]]
+  are_alike <- length(cells) == length(titles) && length(titles) >= 2
+  if (!are_alike || found[3] != one_line(paste(titles, collapse = " "))) return(found[1])
+  last <- titles[length(titles)]
+  own <- paste0("x[[\"", last, "\"]]")
+  if (has_short_clocks(as.list(frame$x)[[last]], last)) {
+    return(paste0(found[2], ": write clocks of four digits, as by ", own, " <- sprintf(\"%04d\", as.integer(", own, "))"))
+  }
+  is_part <- length(titles) == 2 && grepl("^[0-9]+[.][0-9]+$", cells[2])
+  if (is_part && !is.null(frame$x)) paste0(found[2], ": ", help_for_decimals(titles[1], last, frame)) else found[1]
+}
+
+# What helps where hours have decimals.
+help_for_decimals <- function(day, hours, frame) {
+  moment <- moment_of_days(as.list(frame$x)[[day]], day, c(frame$given$tz, frame$clock$tz, "UTC")[1])
+  paste0("make moments of both, as by ", moment, " + 3600 * x[[\"", hours, "\"]], in a column that time names alone")
+}
+
+# Hours that are no clocks, beside the days of one column.
+help_for_hours <- function(found, frame) {
+  if (!all(found[3:4] %in% titles_in(frame))) return(found[1])
+  paste0(found[2], ": ", help_for_decimals(found[4], found[3], frame), ", or remove it")
+}
+
+# A number that is text and written otherwise than it is read.
+help_for_number <- function(found, frame) {
+  titles <- titles_in(frame)
+  at <- match(found[3], one_line(titles))
+  column <- if (!is.na(at)) as.list(frame$x)[[at]]
+  if (!is.character(column) && !is.factor(column)) return(found[1])
+  own <- paste0("x[[\"", titles[at], "\"]]")
+  has_comma <- grepl("^-?[0-9]+,[0-9]+$", found[4])
+  if (!has_comma && grepl("[^-+0-9.eE ]", found[4])) return(found[1])
+  text <- if (has_comma) paste0("sub(\",\", \".\", ", own, ", fixed = TRUE)") else if (is.factor(column)) paste0("as.character(", own, ")") else own
+  what <- if (has_comma) "if its comma stands before decimals, make" else "make"
+  paste0(found[2], ": ", what, " numbers of its column, as by ", own, " <- as.numeric(", text, ")")
+}
+
+# A year of two digits that was read as one of the first century.
+help_for_year <- function(found, frame) {
+  if (is.null(frame$x)) return(found[1])
+  paste0(found[2], ": if its year was written with two digits, read it so, as by as.POSIXct(.., format = \"%d.%m.%y\", tz = \"UTC\")")
+}
+
+# Types of fixes that no fix has.
+help_for_types <- function(found, frame) {
+  titles <- titles_in(frame)
+  is_own <- if (is.null(frame$given[["fix"]])) plain_title(titles) %in% titles_of_types else titles %in% frame$given[["fix"]]
+  if (any(is_own)) paste0(found[1], kinds_said(frame, which(is_own)[1])) else found[1]
+}
+
+# What a column has.
+kinds_said <- function(frame, at) {
+  title <- titles_in(frame)[at]
+  kinds <- one_line(setdiff(unique(cells_of_column(as.list(frame$x)[[at]], title)), ""))
+  if (length(kinds)) paste0(": column '", one_line(title), "' has ", paste(utils::head(kinds, 5), collapse = ", "), if (length(kinds) > 5) ", ..")
+}
+
+# A number that counts something else than seconds since 1970. What has a clock without a zone is made text, which tz reads.
+help_for_count <- function(found, frame) {
+  at <- match(found[3], one_line(titles_in(frame)))
+  if (is.na(at)) return(found[1])
+  own <- paste0("x[[\"", titles_in(frame)[at], "\"]]")
+  numbers <- if (is.numeric(as.list(frame$x)[[at]])) own else paste0("as.numeric(as.character(", own, "))")
+  since <- if (startsWith(found[5], "which looks like days of Excel")) "25569" else if (startsWith(found[5], "which looks like Julian days")) "2440587.5"
+  if (!is.null(since)) {
+    return(paste0(found[2], ": make moments of it, as by ", own, " <- format(as.POSIXct(round(86400 * (", numbers, " - ", since,
+                  ")), origin = \"1970-01-01\", tz = \"UTC\"))"))
+  }
+  part <- parts_since_1970[[as.character(nchar(found[4]))]]
+  if (is.null(part)) return(found[1])
+  paste0(found[2], ": if it is ", part[1], " since 1970, make moments of it, as by ", own, " <- as.POSIXct(", numbers, " / ", part[2],
+         ", origin = \"1970-01-01\", tz = \"UTC\")")
+}
+
+# A row without a time.
+help_for_none <- function(found, frame) {
+  at <- match(found[2], one_line(titles_in(frame)))
+  if (is.na(at) || !anyNA(as.list(frame$x)[[at]])) return(found[1])
+  paste0(found[1], ": leave rows without one out, as by x[!is.na(x[[\"", titles_in(frame)[at], "\"]]), ]")
+}
+
+# A form of times with signs that others have.
+help_for_form <- function(found, frame) {
+  own <- sign_helps[vapply(names(sign_helps), grepl, NA, found[2], fixed = TRUE)]
+  if (length(own)) paste0(found[1], ": ", own[[1]]) else found[1]
+}
+
+# An offset in place of a zone of times: those of Etc have its other sign.
+help_for_offset <- function(found, frame) {
+  hours <- as.numeric(found[4])
+  zone <- if (hours == 0) "UTC" else paste0("Etc/GMT", if (found[3] == "+") "-" else "+", hours)
+  if (hours > 12) found[1] else paste0(found[1], ": the offset ", found[3], hours, " is that of '", zone, "'")
+}
+
+# A column that there is not, where one has the title that read.csv makes of its title.
+help_for_dots <- function(found, frame) {
+  as_made <- function(titles) gsub("[.]+", ".", make.names(titles))
+  titles <- Filter(function(title) grepl(".", title, fixed = TRUE), titles_in(frame))
+  own <- titles[as_made(titles) %in% as_made(strsplit(found[3], " or ", fixed = TRUE)[[1]])]
+  if (!length(own)) return(found[1])
+  paste0(found[2], ": '", own[1], "' may be it, as read.csv changes titles: keep them, by read.csv(.., check.names = FALSE)")
+}
+
+# What the program says, and what is said in its place.
+helps <- list(
+  list("^((.*) is '(.*)' and not a time (?:such as 2024-05-01 00:30:04|of the form .*?))(?:: (?:if it is one|name its form), .*)?$", help_for_time),
+  list(paste0("^(column [0-9]+ '(.*)' has hours, which the days of the time have not): write them as clocks, such as 00:30, and join them, as by ",
+              "time = \"([^,]*),.*\", or remove it$"), help_for_hours),
+  list("^((.*) is '(.*)' and not a number of up to 12 digits)(?:: write .*)?$", help_for_number),
+  list("^(.* is '00[0-9]{2}-[^']*', which is no time since 1970, and not within 0 to [0-9]+ seconds): if its year .*$", help_for_year),
+  list("^(.*there is no column '(.*)'); the table has .*$", help_for_dots),
+  list("^(no line begins with '(.*)', as that of titles does)$", help_for_dots),
+  list("^no fix is left; left out by reason: type [0-9]+$", help_for_types),
+  list("^((.*) is '([0-9.]+)', (which (?:looks like|is no second since 1970).*)): write a time such as .*$", help_for_count),
+  list("^there is no ([^:,]*)$", help_for_none), list("^time_format is '(.*)', which is no form of a day.*$", help_for_form),
+  list("^tz='((?:UTC|GMT)?)([+-])0?([0-9]{1,2})(?::?00)?' is no time zone such as .*$", help_for_offset),
+  list("^EPSG:.* is no zone as 33N$", function(found, frame) paste0(found[1], ": a reference system is named by crs"))
+)
+
+# What the program refuses, with what helps. A frame is its columns and what was asked; of a file what was asked alone.
+with_help <- function(text, frame) {
+  for (help in helps) {
+    found <- regmatches(text, regexec(help[[1]], text, perl = TRUE))[[1]]
+    if (length(found)) return(help[[2]](found, frame))
+  }
+  text
+}

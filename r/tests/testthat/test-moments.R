@@ -1,0 +1,69 @@
+# Days and clocks of frames in sessions of other zones, and what is said of lengths of time beside days.
+
+in_zone <- function(zone, frame = parent.frame()) {
+  old <- Sys.getenv("TZ", NA)
+  Sys.setenv(TZ = zone)
+  at_end(if (is.na(old)) quote(Sys.unsetenv("TZ")) else bquote(Sys.setenv(TZ = .(old))), frame)
+}
+
+days_and_clocks <- function(day, clock) {
+  data.frame(animal = "a", day = day, clock = clock, easting = 500000 + 1:4, northing = 5e6 + c(1, 5, 2, 9))
+}
+
+test_that("days as moments without a zone are joined to clocks in each session", {
+  skip_without_split()
+  clock <- as.difftime(3600 * 1:4, units = "secs")
+  wanted <- as.numeric(as.POSIXct(c("2024-05-01 01:00", "2024-05-02 02:00", "2024-05-03 03:00", "2024-05-04 04:00"), tz = "UTC"))
+  for (zone in c("UTC", "Europe/Vienna", "America/New_York", "Asia/Kathmandu")) {
+    in_zone(zone)
+    day <- .POSIXct(86400 * as.numeric(as.Date("2024-05-01") + 0:3))  # as R before 4.3 makes moments of days
+    fixes <- quietly(read_fixes(days_and_clocks(day, clock), time = c("day", "clock")))
+    expect_identical(as.numeric(fixes$time), wanted)
+    own <- quietly(read_fixes(days_and_clocks(as.POSIXct(format(as.Date("2024-05-01") + 0:3)), clock), time = c("day", "clock"), tz = zone))
+    expect_identical(format(own$time, "%d %H"), c("01 01", "02 02", "03 03", "04 04"))
+  }
+})
+
+test_that("what is said to make times of days and lengths makes them in each session, of the row that has such a length", {
+  skip_without_split()
+  in_zone("America/New_York")
+  hours <- c(1, 2, 25, 4)
+  lengths <- as.difftime(hours, units = "hours")
+  wanted <- as.numeric(as.POSIXct("2024-05-01", tz = "UTC")) + 86400 * 0:3 + 3600 * hours
+  texts <- format(as.Date("2024-05-01") + 0:3)
+  for (day in list(texts, factor(texts), as.Date(texts), as.POSIXct(texts, tz = "UTC"))) {
+    x <- days_and_clocks(day, lengths)
+    fault <- expect_error(read_fixes(x, time = c("day", "clock"), quiet = TRUE), "makes times of both", class = "homerange_time_error")
+    expect_identical(fault$record, 3L)
+    help <- sub(" makes times of both.*", "", sub(".*known: ", "", conditionMessage(fault)))
+    x$at <- eval(parse(text = help))
+    expect_identical(as.numeric(quietly(read_fixes(x[c("animal", "at", "easting", "northing")], time = "at"))$time), sort(wanted))
+  }
+  x <- days_and_clocks(as.Date(texts), lengths)
+  fault <- expect_error(read_fixes(x, time = c("day", "clock"), tz = "Europe/Vienna", quiet = TRUE), class = "homerange_time_error")
+  expect_match(conditionMessage(fault), "as.POSIXct(format(x[[\"day\"]]), tz = \"Europe/Vienna\") + x[[\"clock\"]]", fixed = TRUE)
+  x <- days_and_clocks(format(as.Date(texts), "%d.%m.%Y"), lengths)
+  said <- "as.POSIXct(x[[\"day\"]], tz = \"UTC\", format = ..) + x"
+  expect_error(read_fixes(x, time = c("day", "clock"), quiet = TRUE), said, fixed = TRUE)
+})
+
+test_that("since goes from the first of two moments, and until to the second", {
+  skip_without_split()
+  at <- as.POSIXct("2024-10-26 23:30", tz = "UTC") + 1800 * 0:6  # the clocks of Vienna have 01:30, and twice 02:00 and 02:30
+  table <- data.frame(animal = "a", time = at, easting = 500000 + 1:7, northing = 5e6 + c(1, 5, 2, 9, 3, 4, 8))
+  since <- quietly(read_fixes(table, tz = "Europe/Vienna", since = "2024-10-27 02:30"))
+  expect_equal(as.numeric(min(since$time)), as.numeric(as.POSIXct("2024-10-27 00:30", tz = "UTC")))
+  until <- quietly(read_fixes(table, tz = "Europe/Vienna", until = "2024-10-27 02:30"))
+  expect_equal(as.numeric(max(until$time)), as.numeric(as.POSIXct("2024-10-27 01:30", tz = "UTC")))
+})
+
+test_that("groups may be moments of any class, and what has labels is said to have them", {
+  skip_without_split()
+  fixes <- quietly(read_fixes(transform(walk("fox", 40, 1), second = 1.7e9 + second)))
+  names_of <- function(by) quietly(home_range(fixes, 100, by = by))$groups$group
+  day <- as.POSIXct("2024-05-01", tz = "UTC") + 86400 * (seq_len(nrow(fixes)) %% 2)
+  expect_identical(names_of(as.POSIXlt(day)), names_of(day))
+  expect_identical(names_of(function(x) as.POSIXlt(day)), names_of(day))
+  labelled <- structure(rep_len(1:2, nrow(fixes)), labels = c(den = 1L, open = 2L), class = c("haven_labelled", "vctrs_vctr", "integer"))
+  expect_error(home_range(fixes, by = labelled, quiet = TRUE), "as by haven::as_factor", class = "homerange_option_error")
+})
