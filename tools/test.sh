@@ -35,10 +35,10 @@ holds() {
     name=$1
     shift
     if "$@" >"$work/said" 2>&1; then
-        echo "$name" >>"$work/passed"
+        printf '%s\n' "$name" >>"$work/passed"
     else
-        echo "$name" >>"$work/failed"
-        echo "failed: $name: $*"
+        printf '%s\n' "$name" >>"$work/failed"
+        printf '%s\n' "failed: $name: $*"
         head -n 5 "$work/said"
     fi
 }

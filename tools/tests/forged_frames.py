@@ -157,6 +157,7 @@ of_record("a zone", f"{PAGE} .*EPSG:3035.*, and .*33N.* is wanted", "ranges.gpkg
            "not known: whether the reference system 'EPSG:3035 .seen by the authority.'")
 def _(hand):
     hand.record("^option,crs,EPSG:3035 .*", "option,crs,EPSG:3035 (seen by the authority)")
+    hand.record("^(said,.*; reference system: EPSG:3035) .*", r"\1 (seen by the authority)")
     hand.sealed_sub("report.html", r"EPSG:3035 \(ETRS89-extended / LAEA Europe\)", "EPSG:3035 (seen by the authority)", 0)
 
 

@@ -462,7 +462,7 @@ pub fn split_export<P: Progress>(
     let export = read(alloc, bytes, path, asked, wish, progress)?;
     refuse_maker(alloc, asked, &export)?;
     refuse_other_animals(alloc, bytes, path, &export)?;
-    refuse_passed_over(alloc, wish, &export)?;
+    refuse_passed_over(alloc, asked.unit, wish, &export)?;
     let form = form_of_times(alloc, bytes, asked, wish, &export)?;
     let mut said = Said::new(alloc);
     tell_other_points(alloc, &mut said, wish)?;

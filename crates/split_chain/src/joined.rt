@@ -146,6 +146,21 @@ pub(crate) fn joined_titles(
     })
 }
 
+/// The title of a column, as `--time` takes it.
+pub(crate) fn own_title(
+    alloc: Global,
+    unread: Unread<'_>,
+    column: usize,
+) -> Result<String, AllocError> {
+    let mut join = Join::new(alloc);
+    join.add_title(unread.title(column))?;
+    Ok(if join.is_sound {
+        join.titles
+    } else {
+        String::from_str(alloc, "COLUMN")?
+    })
+}
+
 /// How a column of this sign of a clock is joined to the time, with those of the signs behind it that are there.
 pub(crate) fn join_words(
     alloc: Global,

@@ -2,6 +2,7 @@
 //! the reason why it is refused: all of it in memory.
 #![tactic(auto)]
 
+mod beside;
 mod chain;
 mod joined;
 mod laws;

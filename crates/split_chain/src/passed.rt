@@ -3,9 +3,11 @@
 ghost use Rattle.std.specs.Prelude.{IfErr};
 ghost use Rattle.split_refusal.specs.Refused.{IsOfNoFix};
 
-use crate::joined::{Unread, join_words, joined_titles, refuse_parts};
+use crate::beside::refuse_beside;
+use crate::joined::{Unread, join_words, joined_titles, own_title, refuse_parts};
 use crate::systems::refuse_systems;
 use crate::wish::Wish;
+use range_plane::Scale;
 use split_clock::Clock;
 use split_export::{Export, Texts, look_at_unread};
 use split_reading::{Row, Told};
@@ -25,6 +27,56 @@ const HOURS: [&[u8]; 6] = [b"std", b"ora", b"hr", b"hrs", b"uhr", b"hh"];
 const HOUR_WORDS: [&str; 11] = [
     "hour", "hours", "hora", "horas", "heure", "heures", "stunde", "stunden", "uhrzeit", "hhmm",
     "hhmmss",
+];
+
+// Words of titles of times that are not those of fixes: of animals and devices, of the sun, and of records.
+const OTHER_TIMES: [&str; 46] = [
+    "deploy",
+    "deployed",
+    "deployment",
+    "release",
+    "released",
+    "capture",
+    "captured",
+    "capturing",
+    "tagged",
+    "tagging",
+    "marked",
+    "collared",
+    "collaring",
+    "ringed",
+    "ringing",
+    "birth",
+    "born",
+    "death",
+    "died",
+    "mortality",
+    "start",
+    "started",
+    "begin",
+    "end",
+    "ended",
+    "stop",
+    "first",
+    "last",
+    "next",
+    "previous",
+    "prev",
+    "on",
+    "off",
+    "sunrise",
+    "sunset",
+    "dawn",
+    "dusk",
+    "moonrise",
+    "moonset",
+    "created",
+    "modified",
+    "updated",
+    "update",
+    "uploaded",
+    "imported",
+    "downloaded",
 ];
 
 // Words of titles of the zone of times: such as name UTC, such as name a zone of time, and such as do so two by two.
@@ -142,6 +194,8 @@ enum Passed {
     Classes,
     // The clock, of times that are days alone.
     Clock,
+    // The day and the clock, of such times.
+    Moment,
     // The hour, of such times.
     Hour,
     // The hour in another form than that of one number.
@@ -185,6 +239,11 @@ fn has_offsets(title: &[u8], texts: &Texts) -> bool {
 fn has_grid_zones(title: &[u8], texts: &Texts) -> bool {
     let has_zones = texts.are_grid_zones && has_word(title, &GRID_WORDS) && !is_of_clock(title);
     texts.are_several && (is_one_of(title, &ZONES) || has_word(title, &SYSTEM_WORDS) || has_zones)
+}
+
+// Whether a column of this title and with such texts has times of fixes, with a clock.
+fn has_moments(title: &[u8], texts: &Texts) -> bool {
+    texts.are_several && texts.have_clocks() && !has_word(title, &OTHER_TIMES)
 }
 
 // Whether a column of this title and with such texts has hours.
@@ -260,6 +319,8 @@ fn what_is_passed(known: Known, title: &[u8], texts: &Texts) -> Option<Passed> {
         Some(Passed::Classes)
     } else if known.are_days && texts.are_several && texts.are_clocks {
         Some(Passed::Clock)
+    } else if known.are_days && has_moments(title, texts) {
+        Some(Passed::Moment)
     } else if known.are_days && has_hours(title, texts) {
         Some(if texts.are_hours {
             Passed::Hour
@@ -315,7 +376,12 @@ fn words_of(passed: Passed) -> &'static str {
         Passed::Places => {
             "has coordinates of records that have none in the columns that are read: make a table of each, or remove it"
         }
-        Passed::Clock | Passed::Hour | Passed::OddHour | Passed::Minute | Passed::Second => "",
+        Passed::Clock
+        | Passed::Moment
+        | Passed::Hour
+        | Passed::OddHour
+        | Passed::Minute
+        | Passed::Second => "",
     }
 }
 
@@ -331,6 +397,12 @@ fn words_about(
     if let Some((what, sign)) = part_of(passed) {
         let joined = join_words(alloc, export, wish, unread, column, sign)?;
         return format!(in alloc; "has {what}: {joined}, or remove it");
+    }
+    if let Passed::Moment = passed {
+        let title = own_title(alloc, unread, column)?;
+        return format!(in alloc;
+            "has days with clocks, and the times that are read are days alone: name it as the time, as by --time '{title}', or remove it"
+        );
     }
     let titles = joined_titles(alloc, export, unread, column)?;
     match passed {
@@ -423,6 +495,7 @@ fn refuse_unread(
 /// There is such a column, or memory ran out.
 pub(crate) fn refuse_passed_over(
     alloc: Global,
+    unit: Scale,
     wish: &Wish<'_>,
     export: &Export<'_>,
 ) -> Result<(), Refusal>
@@ -446,5 +519,6 @@ pub(crate) fn refuse_passed_over(
         columns: &columns,
         texts: &texts,
     };
-    refuse_unread(alloc, wish, export, unread)
+    refuse_unread(alloc, wish, export, unread)?;
+    refuse_beside(alloc, unit, export)
 }

@@ -1,5 +1,6 @@
 // What the texts of columns that are not read may say of where and when fixes are, and of which kind.
 
+use crate::unread_moments::Moments;
 use crate::unread_sides::Sides;
 use crate::unread_words::{is_grid_zone, is_numbered, is_of_clock, is_place};
 use csv::ByteRecord;
@@ -24,6 +25,8 @@ pub struct Texts {
     pub are_halves: bool,
     /// Whether all are clocks, as 10:30 and 10:30:00.
     pub are_clocks: bool,
+    // Which days with clocks they are.
+    moments: Moments,
     /// Whether all are whole numbers from 0 to 24.
     pub are_hours: bool,
     /// Whether all are whole numbers from 0 to 59.
@@ -111,6 +114,7 @@ impl Texts {
             are_several: false,
             are_halves: true,
             are_clocks: true,
+            moments: Moments::none(),
             are_hours: true,
             are_minutes: true,
             are_numbered: true,
@@ -126,9 +130,20 @@ impl Texts {
         }
     }
 
+    // Whether a text is the first one.
+    fn is_first(&self, text: &[u8]) -> bool {
+        self.first.get(..text.len()) == Some(text) && self.first.get(text.len()) == Some(&0)
+    }
+
+    // Whether a text changes nothing: one that is missing, or another time the first one, where no record more can tell.
+    fn is_passed(&self, text: &[u8], is_nowhere: bool) -> bool {
+        let is_missing = text.is_empty() || text == b"NA".as_slice();
+        is_missing || self.is_first(text) && !is_nowhere && !self.sides.are_some()
+    }
+
     // The same with one text more, of a record with these degrees, or without coordinates.
     fn with(self, text: &[u8], degrees: Option<(i64, i64)>, is_nowhere: bool) -> Texts {
-        if text.is_empty() || text == b"NA".as_slice() {
+        if self.is_passed(text, is_nowhere) {
             return self;
         }
         let first = if self.are_there {
@@ -136,7 +151,11 @@ impl Texts {
         } else {
             told_bytes(text)
         };
-        let class = class_name(text);
+        let class = if self.are_classes {
+            class_name(text)
+        } else {
+            b""
+        };
         let is_number = matches!(class, [b'0' | b'1' | b'2' | b'3']);
         let is_letter = matches!(class, [b'A' | b'B' | b'Z' | b'G']);
         Texts {
@@ -144,6 +163,7 @@ impl Texts {
             are_several: self.are_several || first != told_bytes(text),
             are_halves: self.are_halves && is_half(text),
             are_clocks: self.are_clocks && is_clock(text),
+            moments: self.moments.with(text),
             are_hours: self.are_hours && is_hour(text),
             are_minutes: self.are_minutes && is_minute(text),
             are_numbered: self.are_numbered && is_numbered(text),
@@ -178,6 +198,11 @@ impl Texts {
         self.are_there && self.sides.are_against()
     }
 
+    /// Whether all are days with clocks, and not all at midnight.
+    pub fn have_clocks(&self) -> bool {
+        self.are_there && self.moments.have_clocks()
+    }
+
     /// Whether they are classes of Argos, numbers and letters.
     pub fn are_of_argos(&self) -> bool {
         self.are_classes && self.has_number && self.has_letter
@@ -187,6 +212,7 @@ impl Texts {
     fn are_open(&self) -> bool {
         self.are_halves
             || self.are_clocks
+            || self.moments.are_open()
             || self.are_hours
             || self.are_minutes
             || self.are_of_clocks

@@ -204,6 +204,9 @@ impl Sides {
 
     /// The same with one text more, of a record with these degrees, or without coordinates.
     pub(crate) fn with(self, text: &[u8], degrees: Option<(i64, i64)>) -> Sides {
+        if !self.are_some() {
+            return self;
+        }
         let side = side_of(text, self.are_places);
         let is_of_latitude = matches!(side, Some(Side::North | Side::South));
         let is_of_longitude = matches!(side, Some(Side::East | Side::West | Side::O));

@@ -92,6 +92,11 @@ pub enum TitleFault<'a> {
         other: usize,
         role: Role,
     },
+    /// The title of a column of coordinates says the other one of the two.
+    OtherAxis {
+        at: usize,
+        role: Role,
+    },
     /// The title of a column of the time says a clock other than that of UTC, and no zone was named.
     LocalTime {
         at: usize,
@@ -140,6 +145,7 @@ impl<'a> TitleFault<'a> {
             | TitleFault::SeparatorLine
             | TitleFault::OtherUnit { .. }
             | TitleFault::OtherSide { .. }
+            | TitleFault::OtherAxis { .. }
             | TitleFault::LocalTime { .. }
             | TitleFault::OtherClock { .. }
             | TitleFault::UtcTime { .. } => Some(FaultKind::Columns),

@@ -2,6 +2,7 @@
 //! is refused for its titles.
 #![tactic(auto)]
 
+mod axes;
 mod brackets;
 mod clock_words;
 mod clocks;
@@ -30,6 +31,7 @@ pub use find::find_columns;
 pub use makers::maker_of;
 pub use named::{Named, Role};
 pub use passed_over::is_of_places;
+pub use places::usual_degrees_in;
 pub use plain::{comes_to, trimmed};
 pub use presets::{GPX, PRESETS, Preset, preset_of};
 pub use sentences::{fault_text, push_shown, start_of_sign};

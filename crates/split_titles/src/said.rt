@@ -1,5 +1,6 @@
-// What the titles of columns that are read say of units, sides and clocks is what they are read in, or refused.
+// What the titles of columns that are read say of units, sides, axes and clocks is what they are read in, or refused.
 
+use crate::axes::other_axis_said;
 use crate::clocks::{ClockSaid, clock_said, is_of_utc, is_other_clock};
 use crate::columns::{Columns, Pair};
 use crate::fault::TitleFault;
@@ -34,6 +35,31 @@ fn refuse_sides<'a>(
     };
     refuse_side(titles, pair.first, pair.second, first)?;
     refuse_side(titles, pair.second, pair.first, second)
+}
+
+// Refuses two columns of coordinates of which one says the other.
+fn refuse_axes<'a>(
+    titles: &[&[u8]],
+    pair: Option<Pair>,
+    first: Role,
+    second: Role,
+) -> Result<(), TitleFault<'a>> {
+    let Some(pair) = pair else {
+        return Ok(());
+    };
+    if other_axis_said(title_at(titles, pair.first), first).is_some() {
+        return Err(TitleFault::OtherAxis {
+            at: pair.first,
+            role: first,
+        });
+    }
+    if other_axis_said(title_at(titles, pair.second), second).is_some() {
+        return Err(TitleFault::OtherAxis {
+            at: pair.second,
+            role: second,
+        });
+    }
+    Ok(())
 }
 
 // Refuses a column of coordinates whose title says another unit.
@@ -88,7 +114,7 @@ fn refuse_clocks<'a>(
     Ok(())
 }
 
-// Refuses the first column that is read in another unit, to another side, or by another clock, than its title says.
+// Refuses the first column that is read in another unit, to another side, along another axis, or by another clock, than its title says.
 pub(crate) fn refuse_said<'a, A: Allocator>(
     titles: &[&[u8]],
     named: &Named<'a>,
@@ -98,5 +124,7 @@ pub(crate) fn refuse_said<'a, A: Allocator>(
     refuse_sides(titles, columns.degrees, Role::Longitude, Role::Latitude)?;
     refuse_units(titles, columns.metres, true)?;
     refuse_units(titles, columns.degrees, false)?;
+    refuse_axes(titles, columns.metres, Role::Easting, Role::Northing)?;
+    refuse_axes(titles, columns.degrees, Role::Longitude, Role::Latitude)?;
     refuse_clocks(titles, &columns.time, named.zone)
 }

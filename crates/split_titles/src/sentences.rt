@@ -5,7 +5,9 @@ ghost use Rattle.std.specs.Prelude.{◌≤◌, length};
 use crate::fault::{PassedOver, TitleFault};
 use crate::named::Role;
 use crate::plain::{comes_to, trimmed};
-use crate::sentences_of_said::{push_local, push_other_clock, push_side, push_unit, push_utc};
+use crate::sentences_of_said::{
+    push_axis, push_local, push_other_clock, push_side, push_unit, push_utc,
+};
 use crate::usual::{
     ARGOS_CLASSES, COLUMN_LIMIT, DATE, DOPS, FIX_TYPES, TIME, UTM_EASTING, UTM_NORTHING,
 };
@@ -377,6 +379,7 @@ fn push_fault<A: Allocator>(
         ),
         TitleFault::OtherUnit { at, is_metres } => push_unit(text, titles, at, is_metres),
         TitleFault::OtherSide { at, other, role } => push_side(text, titles, at, other, role),
+        TitleFault::OtherAxis { at, role } => push_axis(text, titles, at, role),
         TitleFault::LocalTime { at } => push_local(text, titles, at),
         TitleFault::OtherClock { at, zone } => push_other_clock(text, titles, at, zone),
         TitleFault::UtcTime { at, zone } => push_utc(text, titles, at, zone),

@@ -1,5 +1,6 @@
-// The sentences in which a table is refused for what a title says of units, sides and clocks.
+// The sentences in which a table is refused for what a title says of units, sides, axes and clocks.
 
+use crate::axes::other_axis_said;
 use crate::clocks::{ClockSaid, clock_said, is_loose, is_of_offset, is_zone, whole_hours};
 use crate::named::Role;
 use crate::sentences::{push, push_column, title_at};
@@ -69,6 +70,23 @@ pub(crate) fn push_side<A: Allocator>(
     push(
         text,
         ": turn the signs of its numbers, unless they are counted so already, and rename the column",
+    )
+}
+
+// Appends that a column of coordinates says the other one of the two.
+pub(crate) fn push_axis<A: Allocator>(
+    text: &mut Vec<u8, A>,
+    titles: &[&[u8]],
+    at: usize,
+    role: Role,
+) -> Result<(), AllocError> {
+    let word = other_axis_said(title_at(titles, at), role).unwrap_or(b"");
+    push_says(text, titles, at, word)?;
+    push(text, ", and is named as ")?;
+    push(text, role.words())?;
+    push(
+        text,
+        ": name the two columns the other way round, or rename this one",
     )
 }
 

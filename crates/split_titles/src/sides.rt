@@ -66,11 +66,11 @@ const SOUTH: [&str; 28] = [
 ];
 
 // Words for the other sides.
-const EAST: [&str; 8] = [
+pub(crate) const EAST: [&str; 8] = [
     "e", "east", "eastern", "est", "este", "leste", "ost", "osten",
 ];
 
-const NORTH: [&str; 8] = [
+pub(crate) const NORTH: [&str; 8] = [
     "n", "north", "northern", "nord", "norte", "norden", "noord", "sever",
 ];
 
@@ -151,7 +151,7 @@ const OF_PLANES: [&str; 24] = [
 ];
 
 // Whether a role is that of the first of two coordinates.
-fn is_first(role: Role) -> bool {
+pub(crate) fn is_first(role: Role) -> bool {
     role == Role::Longitude || role == Role::Easting
 }
 

@@ -301,6 +301,22 @@ NO_SIDES = [
     ("easting", "Easting (UTM 36 South)", "Northing (UTM 36 South)"), ("easting", "x_lambert_sud", "y_lambert_sud"), ("easting", "x_west_coast", "y_south_coast"),
     ("easting", "Easting/Westing", "Northing/Southing"), ("easting", "x west camera", "y sur carte"),
 ]
+# Titles of longitudes that say the latitude, of latitudes that say the longitude, and of eastings and northings likewise.
+OF_NORTH = [
+    ("Latitude", "Latitude"), ("lat", "lat"), ("gps.lat", "lat"), ("Breite", "Breite"), ("GEO_BREITENGRAD", "BREITENGRAD"), ("geogr. Breite (°)", "Breite"),
+    ("zeměpisná šířka", "šířka"), ("Šířka", "Šířka"), ("Широта", "Широта"), ("szerokość geogr.", "szerokość"), ("latitud (grados)", "latitud"), ("Northing", "Northing"),
+    ("Hochwert", "Hochwert"), ("utm_northing_m", "northing"), ("north", "north"), ("N", "N"), ("Nord", "Nord"),
+]
+OF_EAST = [
+    ("Longitude", "Longitude"), ("lon", "lon"), ("long_wgs84", "long"), ("Länge", "Länge"), ("GPS LONGITUDE", "LONGITUDE"), ("dolžina", "dolžina"),
+    ("Долгота", "Долгота"), ("Rechtswert", "Rechtswert"), ("Easting", "Easting"), ("UTM33N_Easting", "Easting"), ("E", "E"), ("est", "est"),
+]
+# Titles of two coordinates that say no other axis.
+NO_AXES = [
+    ("lon", "lon_lat", "lat_lon"), ("lon", "x", "y"), ("lon", "long (N/S: lat)", "lat (E/W: lon)"), ("easting", "y", "x"), ("easting", "X", "Y"), ("easting", "Y (PL-2000)", "X (PL-2000)"),
+    ("easting", "latlong_x", "latlong_y"), ("easting", "x_utm33n", "y_utm33n"), ("easting", "x UTM 33 North", "y UTM 33 North"), ("easting", "E_north_grid", "N_east_grid"),
+    ("lon", "lateral_x", "longest_y"), ("easting", "Rechtswert", "Hochwert"), ("easting", "E", "N"), ("easting", "Ost", "Nord"),
+]
 # Titles of coordinates in metres, and in degrees, that say a multiple or a part of their unit, and how.
 MULTIPLES = [
     ("E_100m", "100m"), ("x (10 m)", "10 m"), ("x1000", "x1000"), ("easting (x 100)", "x 100"), ("northing [100 m]", "100 m"), ("in 100 m", "100 m"),
@@ -367,6 +383,17 @@ def of_sides():
         yield *named(first, one, other), NO_RECORD
 
 
+def of_axes():
+    """The refusals of titles of coordinates that say the other one of the two, and pairs of titles that are taken."""
+    for first, name, is_second, cases in (("lon", "longitude", False, OF_NORTH), ("lon", "latitude", True, OF_EAST),
+                                          ("easting", "easting", False, OF_NORTH), ("easting", "northing", True, OF_EAST)):
+        for title, word in cases:
+            yield (*named(first, *(("a", title) if is_second else (title, "b"))),
+                   f"column {3 + is_second} '{title}' says {word}, and is named as the {name}: name the two columns the other way round, or rename this one")
+    for first, one, other in NO_AXES:
+        yield *named(first, one, other), NO_RECORD
+
+
 def of_multiples():
     """The refusals of titles of coordinates that say a multiple of their unit, and titles that are taken."""
     for title, said in MULTIPLES:
@@ -389,7 +416,7 @@ def fault(program, options, titles, line):
 def faults(program):
     """Each case with how the program does not do what it wants; None where it does."""
     clocks = ((options, f"id,{title},lon,lat", line) for options, title, line in of_clocks())
-    for options, titles, line in (*REFUSED, *of_sides(), *of_multiples(), *clocks):
+    for options, titles, line in (*REFUSED, *of_sides(), *of_axes(), *of_multiples(), *clocks):
         yield f"titles {' '.join([*options, titles])}", fault(program, options, titles, line)
 
 

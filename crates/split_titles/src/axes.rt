@@ -1,0 +1,99 @@
+// What titles say of the axis of coordinates: whether they are the first of two, or the second.
+
+use crate::named::Role;
+use crate::sides::{EAST, NORTH, is_first};
+use crate::words::{first_word, is_one_word};
+
+// Words for coordinates that are counted to the east.
+const EASTINGS: [&str; 33] = [
+    "easting",
+    "eastings",
+    "rechtswert",
+    "ostwert",
+    "lon",
+    "lons",
+    "long",
+    "lng",
+    "longitude",
+    "longitudes",
+    "longitud",
+    "longitudine",
+    "länge",
+    "laenge",
+    "längengrad",
+    "laengengrad",
+    "lengte",
+    "lengtegraad",
+    "längd",
+    "längdgrad",
+    "lengde",
+    "lengdegrad",
+    "længde",
+    "længdegrad",
+    "pituus",
+    "pituusaste",
+    "délka",
+    "dolžina",
+    "dužina",
+    "długość",
+    "hosszúság",
+    "долгота",
+    "Долгота",
+];
+
+// Words for coordinates that are counted to the north.
+const NORTHINGS: [&str; 32] = [
+    "northing",
+    "northings",
+    "hochwert",
+    "nordwert",
+    "lat",
+    "lats",
+    "latitude",
+    "latitudes",
+    "latitud",
+    "latitudine",
+    "breite",
+    "breitengrad",
+    "breedte",
+    "breedtegraad",
+    "bredd",
+    "breddgrad",
+    "bredde",
+    "breddegrad",
+    "leveys",
+    "leveysaste",
+    "šířka",
+    "Šířka",
+    "šírka",
+    "Šírka",
+    "širina",
+    "Širina",
+    "szerokość",
+    "szélesség",
+    "широта",
+    "Широта",
+    "ширина",
+    "Ширина",
+];
+
+// The first word of a title for coordinates of this axis; that of a side is one where it stands alone.
+fn word_of(title: &[u8], is_first: bool) -> Option<&[u8]> {
+    let is_alone = is_one_word(title);
+    match is_first {
+        true if is_alone => first_word(title, &EASTINGS).or(first_word(title, &EAST)),
+        true => first_word(title, &EASTINGS),
+        false if is_alone => first_word(title, &NORTHINGS).or(first_word(title, &NORTH)),
+        false => first_word(title, &NORTHINGS),
+    }
+}
+
+// The word by which the title of a coordinate says that it is the other one of the two.
+pub(crate) fn other_axis_said(title: &[u8], role: Role) -> Option<&[u8]> {
+    let is_first = is_first(role);
+    if word_of(title, is_first).is_some() {
+        None
+    } else {
+        word_of(title, !is_first)
+    }
+}
