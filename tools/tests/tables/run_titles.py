@@ -291,7 +291,7 @@ LATITUDES = [
 ]
 # Titles of eastings that say the west or the south, and of northings.
 EASTINGS = [("Westing", "Westing"), ("westings (m)", "westings"), ("x_west", "west"), ("X (West)", "West"), ("Easting (West)", "West"), ("x ouest", "ouest"), ("Southing", "Southing")]
-NORTHINGS = [("Southing", "Southing"), ("y (south)", "south"), ("coord_y_south_m", "south"), ("Y süd", "süd"), ("westing", "westing")]
+NORTHINGS = [("Southing", "Southing"), ("y (south)", "south"), ("coord_y_south_m", "south"), ("Y süd", "süd"), ("westing", "westing"), ("south_northing", "south"), ("y (south grid)", "south")]
 # Titles of two coordinates that say no such side.
 NO_SIDES = [
     ("lon", "lon_wgs84", "lat_wgs84"), ("lon", "lon_s", "lat_s"), ("lon", "lon_W", "lat_W"), ("lon", "Lon (E/W)", "Lat (N/S)"), ("lon", "lon_deg", "lat_deg"),
