@@ -10,7 +10,7 @@ use split_clock::Clock;
 use split_export::{Export, Texts, look_at_unread};
 use split_reading::{Row, Told};
 use split_refusal::{Kind, Refusal, sign_of};
-use split_titles::{comes_to, has_word, is_of_places, not_read, trimmed};
+use split_titles::{comes_to, has_word, is_of_halves, is_of_places, not_read, trimmed};
 use std::alloc::{AllocError, Global};
 
 // The seconds of a day.
@@ -252,7 +252,7 @@ fn known_of(export: &Export<'_>, wish: &Wish<'_>) -> Known {
 fn what_is_passed(known: Known, title: &[u8], texts: &Texts) -> Option<Passed> {
     if !texts.are_there {
         None
-    } else if known.has_time && texts.are_halves {
+    } else if known.has_time && (texts.are_halves || is_of_halves(title)) {
         Some(Passed::Half)
     } else if texts.are_against() {
         Some(Passed::Side)

@@ -182,7 +182,7 @@ fn small_at(text: &[u8], place: usize) -> u8 {
 }
 
 // Whether two words are the same in small letters.
-fn is_same(word: &[u8], other: &[u8]) -> bool {
+pub(crate) fn is_same(word: &[u8], other: &[u8]) -> bool {
     if word.len() != other.len() {
         return false;
     }

@@ -139,6 +139,20 @@ REFUSED = [
       for one, other in (("south", "north"), ("S.", "N."), ("SOUTH", "S"), ("Sud", "Nord"), ("Southern hemisphere", "northern hemisphere"), ("süd", "Norden"), ("sur", "sur"),
                          ("West", "East"), ("w.", "E"), ("Ouest", "Est"), ("oeste", "leste"), ("west longitude", "west longitude"), ("O", "E"))),
     ("halves of the day", [], b"id,time,x,y,half\na,2024-05-01 01:00,1000,2000,AM\na,2024-05-01 01:30,1030,2040,pm\n", None, "column 5 'half' has halves of the day"),
+    *((f"halves of the day as {one!r} and {other!r} under {title}", [], f"id,time,x,y,{title}\na,2024-05-01 01:00,1000,2000,{one}\na,2024-05-01 01:30,1030,2040,{other}\n".encode(), None,
+       f"column 5 '{title}' has halves of the day, and is not read: write them AM and PM and join it to the time") for title, one, other in (
+           ("half", "AM ", " pm"), ("half", "a. m.", "p. m."), ("h", "a.\u00a0m.", "p.\u202fm."), ("note", "vorm.", "nachm."), ("x5", "Vormittag", "NACHMITTAG"), ("pul dne", "dop.", "odp."), ("dan", "dopoldne", "popoldne"),
+           ("napszak", "délelőtt", "DÉLUTÁN"), ("ampm", "0", "1"), ("AM/PM", "A", "P"), ("am.pm", "morning", "evening"), ("AmPm", "1", "1"))),
+    *((f"clocks of 12 hours beside days, {one}", [], f"id,date,x,y,c\na,2024-05-01,1000,2000,{one}\na,2024-05-01,1030,2040,{other}\n".encode(), None,
+       "column 5 'c' has hours, which the days of the time have not: join them, as by --time 'date,c', or remove it") for one, other in (
+           ("03:00 nachm.", "04:00 nachm."), ("3:00 AM", "3:30 pm"), ("3 PM", "4 PM"), ("3pm", "11am"), ("10:30 ", "11:00 "), ("03:00:00 a. m.", "04:00:00 p. m."), ("03:00 dop.", "03:00 odp."), ("3:00 du matin", "4:00 du soir"))),
+    *((f"a half of the day behind a time, {cell}", words, f"id,date,x,y\na,{cell},1000,2000\n".encode(), 1, f"date is '{cell}' and not a time {what}") for words, cell, what in (
+        ([], "2024-05-01 03:00 nachm.", "such as 2024-05-01 00:30:04: write its half of the day as PM at its end, and name its form, as by --time-format '%Y-%m-%d %I:%M %p'"),
+        ([], "01.05.2024 03:00:10 vorm.", "such as 2024-05-01 00:30:04: write its half of the day as AM at its end, and name its form, as by --time-format '%d.%m.%Y %I:%M:%S %p'"),
+        ([], "2024-05-01 03:00 AM ", "such as 2024-05-01 00:30:04: write its half of the day as AM at its end, and name its form, as by --time-format '%Y-%m-%d %I:%M %p'"),
+        ([], "5/13/2024 1:30 p. m.", "such as 2024-05-01 00:30:04: write its half of the day as PM at its end, and name its form, as by --time-format '%m/%d/%Y %I:%M %p'"),
+        (["--time-format", "%Y-%m-%d %I:%M %p"], "2024-05-01 03:00 odp.", "of the form %Y-%m-%d %I:%M %p: write its half of the day as PM at its end"))),
+    ("a clock of 12 hours alone", [], b"id,time,x,y\na,3:00 nachm.,1000,2000\n", 1, "which is a clock without a day: name the column of the day too"),
     ("a clock beside days", [], b"id,date,x,y,Uhrzeit\na,2024-05-01,1000,2000,10:30\na,2024-05-01,1030,2040,9:15\n", None, "column 5 'Uhrzeit' has hours, which the days of the time have not: join them, as by --time 'date,Uhrzeit', or remove it"),
     ("hours beside days", [], b"id,date,x,y,hora\na,2024-05-01,1000,2000,7\na,2024-05-01,1030,2040,23\n", None, "column 5 'hora' has hours, which the days of the time have not: join them, as by --time 'date,hora' --time-format '%Y-%m-%d %H', or remove it"),
     ("an offset of times that begins as UTC", [], b"id,time,x,y,utc_offset\na,2024-03-31 00:00,1000,2000,Z\na,2024-03-31 00:30,1030,2040,+00:00\na,2024-03-31 01:30,1060,2040,+01:00\n", None,
@@ -330,6 +344,10 @@ READ = [
      b"a,2024-05-01 01:00,1000,2000,forest,500123.5,1,x,UTC,9,Europe/Vienna\na,2024-05-02 23:00,1030,2040,meadow,500153.5,23,y,Z,10,Europe/Vienna\n",
      [*LINES, columns("id, date, x, y", "0.030 by 0.040", ", from 2024-05-01 to 2024-05-02"), "not read: zone name, utm_x, hour_utc, UTC note, time zone, light hours, study-timezone"],
      {"a": "a,1714525200,1000,2000\na,1714690800,1030,2040\n"}),
+    ("columns that say nothing of halves of the day", [], b"id,time,x,y,country,band,daypart,nest,amp,pm25\n"
+     b"a,2024-05-01,1000,2000,DE,FM,morning,12a,1,3\na,2024-05-02,1030,2040,DE,FM,evening,7p,2,4\n",
+     [*LINES, columns("id, time, x, y", "0.030 by 0.040", ", from 2024-05-01 to 2024-05-02"), "not read: country, band, daypart, nest, amp, pm25"],
+     {"a": "a,1714521600,1000,2000\na,1714608000,1030,2040\n"}),
     ("columns that say nothing of hours beside days", [], b"id,date,x,y,HR (bpm),x_std,hour\na,2024-05-01,1000,2000,80,1.5,12\na,2024-05-02,1030,2040,95,2.5,12\n",
      [*LINES, columns("id, date, x, y", "0.030 by 0.040", ", from 2024-05-01 to 2024-05-02"), "not read: HR (bpm), x_std, hour"],
      {"a": "a,1714521600,1000,2000\na,1714608000,1030,2040\n"}),
