@@ -12,6 +12,7 @@ mod read;
 mod steps;
 mod systems;
 mod times;
+mod units;
 mod wish;
 
 pub use chain::{Split, split_export};

@@ -5,6 +5,7 @@ ghost use Rattle.split_refusal.specs.Refused.{IsOfNoFix};
 
 use crate::joined::{Unread, join_words, joined_titles, refuse_parts};
 use crate::systems::refuse_systems;
+use crate::units::refuse_units;
 use crate::wish::Wish;
 use split_clock::Clock;
 use split_export::{Export, Texts, look_at_unread};
@@ -413,6 +414,7 @@ fn refuse_unread(
         return Err(passed_refusal(alloc, export, wish, unread, column, what));
     }
     refuse_systems(alloc, wish, export, unread)?;
+    refuse_units(alloc, export, unread)?;
     refuse_parts(alloc, export, unread)
 }
 

@@ -7,7 +7,7 @@ use range_plane::OutOfMemory;
 use split_filters::class_name;
 use split_reading::{Row, Told};
 use split_table::{TableFault, TableText};
-use split_titles::{clock_of_half, is_half_of_day};
+use split_titles::{clock_of_half, is_half_of_day, unit_named};
 use split_tracks::Reason;
 use std::alloc::Global;
 
@@ -37,6 +37,8 @@ pub struct Texts {
     pub are_of_clocks: bool,
     /// Whether all may be zones of UTM or parts of such, or codes of systems.
     pub are_grid_zones: bool,
+    /// Whether all name units of lengths or angles.
+    pub are_units: bool,
     /// Whether one is a number other than 0 of a record that has no coordinates.
     pub is_beside_none: bool,
     // The sides that they say.
@@ -115,6 +117,7 @@ impl Texts {
             are_utc: true,
             are_of_clocks: true,
             are_grid_zones: true,
+            are_units: true,
             is_beside_none: false,
             sides: Sides::none(title),
             are_classes: true,
@@ -149,6 +152,7 @@ impl Texts {
             are_utc: self.are_utc && is_utc(text),
             are_of_clocks: self.are_of_clocks && (is_utc(text) || is_of_clock(text)),
             are_grid_zones: self.are_grid_zones && is_grid_zone(text),
+            are_units: self.are_units && unit_named(text).is_some(),
             is_beside_none: self.is_beside_none || is_nowhere && is_place(text),
             sides: self.sides.with(text, degrees),
             are_classes: self.are_classes && (is_number || is_letter),
@@ -190,6 +194,7 @@ impl Texts {
             || self.are_minutes
             || self.are_of_clocks
             || self.are_grid_zones
+            || self.are_units
             || self.sides.are_some()
             || self.are_classes
             || self.are_utc

@@ -192,6 +192,17 @@ REFUSED = [
       for what, cell in (("of a projection of Mercator", "EPSG:3857"), ("of a projection of Mercator", "900913"), ("longitude and latitude", "EPSG:4326"), ("longitude and latitude", "4258"))),
     *((f"a system of option --crs, {cell}", ["--crs", cell], OWN.encode(), None, f"--crs: {cell} {what}") for cell, what in (
         ("EPSG:4326", "has longitude and latitude"), ("4258", "has longitude and latitude"), ("EPSG:3857", "is a projection of Mercator"), ("urn:ogc:def:crs:EPSG::3395", "is a projection of Mercator"))),
+    *((f"metres that are said to be in another unit, {cell}, under {title}", [], f"id,date,x,y,{title}\na,2024-05-01,561000,5134000,{cell}\na,2024-05-02,561030,5134040,{cell}\n".encode(), None,
+       f"column 5 '{title}' says that coordinates are in another unit than metres, in which they are read: write metres and remove it, or remove it where it is not theirs") for title, cell in (
+           ("unit", "ft"), ("units", "feet"), ("Units", "US survey foot"), ("coord_unit", "km"), ("coordUnits", "dm"), ("Einheit", "Kilometer"), ("unidad", "pies"), ("unité", "kilomètres"), ("UNITÉ", "km"), ("xy units", "yards"),
+           ("map_units", "us-ft"), ("unit", "decimetres"), ("unit", "cm "))),
+    *((f"a unit of coordinates, {cell}, under {title}", words, f"id,date,{pair},{title}\na,2024-05-01,{one},{cell}\na,2024-05-02,{two},{other}\n".encode(), None, f"column 5 '{title}' {what}")
+      for words, pair, one, two, title, cell, other, what in (
+          ([], "x,y", "561000,5134000", "561030,5134040", "unit", "m", "ft", "has several units: write all coordinates in metres, or in degrees with decimals, and remove it"),
+          ([], "x,y", "561000,5134000", "561030,5134040", "units", "degrees", "degrees", "says that coordinates are in degrees, and they are read as metres: name them by --lon and --lat"),
+          ([], "x,y", "561000,5134000", "561030,5134040", "coordinate units", "gon", "gon", "says that coordinates are in degrees, and they are read as metres"),
+          ([], "lon,lat", "15.8,46.3", "15.9,46.4", "unit", "gon", "gon", "says that coordinates are in another unit than degrees, in which they are read: write degrees with decimals and remove it"),
+          ([], "lon,lat", "1.5,0.8", "1.4,0.8", "coord_unit", "radians", "radians", "says that coordinates are in another unit than degrees"))),
     ("a first moment behind the last", ["--since", "2024-06-01", "--until", "2024-05-01"], b"id,date,x,y\na,2024-05-01,1000,2000\n", None,
      "since is '2024-06-01', which is later than until, '2024-05-01': no fix is of both"),
     ("a date in the columns of its parts", [], b"id,Year,Month,Day,Hour,Min,x,y\na,2024,5,1,7,30,1000,2000\na,2024,5,1,8,0,1030,2040\n", None,
@@ -344,6 +355,10 @@ READ = [
      b"a,2024-05-01 01:00,1000,2000,forest,500123.5,1,x,UTC,9,Europe/Vienna\na,2024-05-02 23:00,1030,2040,meadow,500153.5,23,y,Z,10,Europe/Vienna\n",
      [*LINES, columns("id, date, x, y", "0.030 by 0.040", ", from 2024-05-01 to 2024-05-02"), "not read: zone name, utm_x, hour_utc, UTC note, time zone, light hours, study-timezone"],
      {"a": "a,1714525200,1000,2000\na,1714690800,1030,2040\n"}),
+    ("columns that say nothing of the unit of coordinates", [], b"id,time,x,y,unit,alt_unit,speed unit,management unit,UnitID,coord_units,depth units,unit name,units\n"
+     b"a,2024-05-01,1000,2000,m,ft,km/h,MI,12,metres,dm,ft hill,km/h\na,2024-05-02,1030,2040,m,ft,km/h,MI,12,metres,dm,ft hill,km/h\n",
+     [*LINES, columns("id, time, x, y", "0.030 by 0.040", ", from 2024-05-01 to 2024-05-02"), "not read: unit, alt_unit, speed unit, management unit, UnitID, coord_units, depth units, unit name, units"],
+     {"a": "a,1714521600,1000,2000\na,1714608000,1030,2040\n"}),
     ("columns that say nothing of halves of the day", [], b"id,time,x,y,country,band,daypart,nest,amp,pm25\n"
      b"a,2024-05-01,1000,2000,DE,FM,morning,12a,1,3\na,2024-05-02,1030,2040,DE,FM,evening,7p,2,4\n",
      [*LINES, columns("id, time, x, y", "0.030 by 0.040", ", from 2024-05-01 to 2024-05-02"), "not read: country, band, daypart, nest, amp, pm25"],
