@@ -10,6 +10,7 @@ mod passed;
 mod placed;
 mod read;
 mod steps;
+mod summers;
 mod systems;
 mod times;
 mod units;

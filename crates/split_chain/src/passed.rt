@@ -4,6 +4,7 @@ ghost use Rattle.std.specs.Prelude.{IfErr};
 ghost use Rattle.split_refusal.specs.Refused.{IsOfNoFix};
 
 use crate::joined::{Unread, join_words, joined_titles, refuse_parts};
+use crate::summers::refuse_summers;
 use crate::systems::refuse_systems;
 use crate::units::refuse_units;
 use crate::wish::Wish;
@@ -18,7 +19,7 @@ use std::alloc::{AllocError, Global};
 const DAY: i128 = 86_400;
 
 // The zone that every clock without a name is of.
-const UTC: &str = "UTC";
+pub(crate) const UTC: &str = "UTC";
 
 // Titles of hours that are words of other things too, and words of titles of hours.
 const HOURS: [&[u8]; 6] = [b"std", b"ora", b"hr", b"hrs", b"uhr", b"hh"];
@@ -415,6 +416,7 @@ fn refuse_unread(
     }
     refuse_systems(alloc, wish, export, unread)?;
     refuse_units(alloc, export, unread)?;
+    refuse_summers(alloc, wish, export, unread)?;
     refuse_parts(alloc, export, unread)
 }
 

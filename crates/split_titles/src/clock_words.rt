@@ -401,7 +401,7 @@ const PLACES: [&str; 245] = [
 ];
 
 // Words for the time, and for the day.
-const TIMES: [&str; 64] = [
+pub(crate) const TIMES: [&str; 64] = [
     "time",
     "times",
     "timestamp",

@@ -203,6 +203,17 @@ REFUSED = [
           ([], "x,y", "561000,5134000", "561030,5134040", "coordinate units", "gon", "gon", "says that coordinates are in degrees, and they are read as metres"),
           ([], "lon,lat", "15.8,46.3", "15.9,46.4", "unit", "gon", "gon", "says that coordinates are in another unit than degrees, in which they are read: write degrees with decimals and remove it"),
           ([], "lon,lat", "1.5,0.8", "1.4,0.8", "coord_unit", "radians", "radians", "says that coordinates are in another unit than degrees"))),
+    *((f"a summer time that UTC has not, {cell}, under {title}", words, f"id,time,x,y,{title}\na,2024-01-01 01:00,1000,2000,{other}\na,2024-07-01 02:00,1030,2040,{cell}\n".encode(), None,
+       f"column 5 '{title}' says that times are by the clock of a summer (record 2), and they are read as those of UTC: name their zone, as by --tz Europe/Ljubljana, or write the offset behind each time, and remove it")
+      for words, title, cell, other in (
+          ([], "DST", "1", "0"), ([], "dst_flag", "yes", "no"), ([], "summer_time", "TRUE", "FALSE"), ([], "isdst", "1.0", "0.0"), (["--tz", "UTC"], "isDST", "Y", "N"), ([], "Sommerzeit", "ja", "nein"), ([], "heure d'été", "oui", "non"),
+          ([], "horario_verano", "si", "no"), ([], "letní čas", "ano", "ne"), ([], "Daylight Saving Time", "x", ""), ([], "dst", "DST", "ST"))),
+    *((f"a summer time that the clock has not: {what}", ["--tz", "Europe/Ljubljana"], f"id,time,x,y,dst\na,{one}\na,{two}\n".encode(), None,
+       f"column 5 'dst' says otherwise than the clock of Europe/Ljubljana which times are of the summer (record {record}): write the offset behind each time, as in 2024-05-01 00:30+02:00, or name their own zone, by --tz, and remove it")
+      for what, one, two, record in (
+          ("none in July", "2024-01-01 01:00,1000,2000,0", "2024-07-01 02:00,1030,2040,0", 2), ("one in January", "2024-01-01 01:00,1000,2000,1", "2024-07-01 02:00,1030,2040,1", 1),
+          ("the second of an hour that comes twice", "2024-10-27 01:30,1000,2000,1", "2024-10-27 02:30,1030,2040,0", 2), ("the first day", "2024-03-31 00:30,1000,2000,0", "2024-03-31 03:30,1030,2040,0", 2),
+          ("the last hour", "2024-10-27 01:59,1000,2000,0", "2024-10-27 03:30,1030,2040,0", 1))),
     ("a first moment behind the last", ["--since", "2024-06-01", "--until", "2024-05-01"], b"id,date,x,y\na,2024-05-01,1000,2000\n", None,
      "since is '2024-06-01', which is later than until, '2024-05-01': no fix is of both"),
     ("a date in the columns of its parts", [], b"id,Year,Month,Day,Hour,Min,x,y\na,2024,5,1,7,30,1000,2000\na,2024,5,1,8,0,1030,2040\n", None,
@@ -359,6 +370,13 @@ READ = [
      b"a,2024-05-01,1000,2000,m,ft,km/h,MI,12,metres,dm,ft hill,km/h\na,2024-05-02,1030,2040,m,ft,km/h,MI,12,metres,dm,ft hill,km/h\n",
      [*LINES, columns("id, time, x, y", "0.030 by 0.040", ", from 2024-05-01 to 2024-05-02"), "not read: unit, alt_unit, speed unit, management unit, UnitID, coord_units, depth units, unit name, units"],
      {"a": "a,1714521600,1000,2000\na,1714608000,1030,2040\n"}),
+    ("a summer time that is that of the clock", ["--tz", "Europe/Ljubljana"], b"id,time,x,y,dst\na,2024-03-31 01:30,1000,2000,0\na,2024-03-31 03:30,1030,2040,1\na,2024-07-01 02:00,1030,2040,1\na,2024-10-27 01:30,1030,2040,1\na,2024-10-27 03:30,1030,2040,0\n",
+     ["times are read as ISO text, in Europe/Ljubljana", *LINES, columns("id, time, x, y", "0.030 by 0.040", ", from 2024-03-31 to 2024-10-27"), "not read: dst"],
+     {"a": "a,1711845000,1000,2000\na,1711848600,1030,2040\na,1719792000,1030,2040\na,1729985400,1030,2040\na,1729996200,1030,2040\n"}),
+    ("columns that say nothing of a summer time", [], b"id,time,x,y,dst,summer,DST_km,summer time\n"
+     b"a,2024-05-01T00:00Z,1000,2000,1,yes,1,12:00\na,2024-05-02T00:00+02:00,1030,2040,1,no,7,13:00\n",
+     [*LINES, columns("id, time, x, y", "0.030 by 0.040", ", from 2024-05-01 to 2024-05-01"), "not read: dst, summer, DST_km, summer time"],
+     {"a": "a,1714521600,1000,2000\na,1714600800,1030,2040\n"}),
     ("columns that say nothing of halves of the day", [], b"id,time,x,y,country,band,daypart,nest,amp,pm25\n"
      b"a,2024-05-01,1000,2000,DE,FM,morning,12a,1,3\na,2024-05-02,1030,2040,DE,FM,evening,7p,2,4\n",
      [*LINES, columns("id, time, x, y", "0.030 by 0.040", ", from 2024-05-01 to 2024-05-02"), "not read: country, band, daypart, nest, amp, pm25"],
