@@ -8,6 +8,7 @@ mod laws;
 mod missing;
 mod passed;
 mod placed;
+mod predeployment;
 mod read;
 mod steps;
 mod summers;

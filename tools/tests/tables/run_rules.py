@@ -377,6 +377,13 @@ READ = [
      b"a,2024-05-01T00:00Z,1000,2000,1,yes,1,12:00\na,2024-05-02T00:00+02:00,1030,2040,1,no,7,13:00\n",
      [*LINES, columns("id, time, x, y", "0.030 by 0.040", ", from 2024-05-01 to 2024-05-01"), "not read: dst, summer, DST_km, summer time"],
      {"a": "a,1714521600,1000,2000\na,1714600800,1030,2040\n"}),
+    *((f"fixes of before a deployment, by {title}", [], f"id,time,x,y,{title}\na,2024-05-01,1000,2000,{yes}\na,2024-05-02,1030,2040,{no}\na,2024-05-03,,,{yes}\n".encode(),
+       [f"1 fixes are of before the deployment, by {title}: are they the animal's?", "1 records have no coordinates: left out", *LINES, columns("id, time, x, y", "0.030 by 0.040", ", from 2024-05-01 to 2024-05-02"), f"not read: {title}"],
+       {"a": "a,1714521600,1000,2000\na,1714608000,1030,2040\n"})
+      for title, yes, no in (("Predeployment Data", "Yes", "No"), ("Predeployment.Data", "yes", ""), ("pre-deployment", "TRUE", "FALSE"), ("PreDeployment", "1", "0"))),
+    *((f"no fix of before a deployment, {cell}", [], f"id,time,x,y,Predeployment Data\na,2024-05-01,1000,2000,{cell}\na,2024-05-02,1030,2040,{cell}\n".encode(),
+       [*LINES, columns("id, time, x, y", "0.030 by 0.040", ", from 2024-05-01 to 2024-05-02"), "not read: Predeployment Data"], {"a": "a,1714521600,1000,2000\na,1714608000,1030,2040\n"})
+      for cell in ("No", "", "none", "n/a")),
     ("columns that say nothing of halves of the day", [], b"id,time,x,y,country,band,daypart,nest,amp,pm25\n"
      b"a,2024-05-01,1000,2000,DE,FM,morning,12a,1,3\na,2024-05-02,1030,2040,DE,FM,evening,7p,2,4\n",
      [*LINES, columns("id, time, x, y", "0.030 by 0.040", ", from 2024-05-01 to 2024-05-02"), "not read: country, band, daypart, nest, amp, pm25"],
