@@ -5,6 +5,7 @@
 mod chain;
 mod joined;
 mod laws;
+mod minutes;
 mod missing;
 mod passed;
 mod placed;

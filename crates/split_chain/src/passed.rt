@@ -4,6 +4,7 @@ ghost use Rattle.std.specs.Prelude.{IfErr};
 ghost use Rattle.split_refusal.specs.Refused.{IsOfNoFix};
 
 use crate::joined::{Unread, join_words, joined_titles, refuse_parts};
+use crate::minutes::refuse_minutes;
 use crate::summers::refuse_summers;
 use crate::systems::refuse_systems;
 use crate::units::refuse_units;
@@ -417,6 +418,7 @@ fn refuse_unread(
     refuse_systems(alloc, wish, export, unread)?;
     refuse_units(alloc, export, unread)?;
     refuse_summers(alloc, wish, export, unread)?;
+    refuse_minutes(alloc, export, unread)?;
     refuse_parts(alloc, export, unread)
 }
 

@@ -214,6 +214,9 @@ REFUSED = [
           ("none in July", "2024-01-01 01:00,1000,2000,0", "2024-07-01 02:00,1030,2040,0", 2), ("one in January", "2024-01-01 01:00,1000,2000,1", "2024-07-01 02:00,1030,2040,1", 1),
           ("the second of an hour that comes twice", "2024-10-27 01:30,1000,2000,1", "2024-10-27 02:30,1030,2040,0", 2), ("the first day", "2024-03-31 00:30,1000,2000,0", "2024-03-31 03:30,1030,2040,0", 2),
           ("the last hour", "2024-10-27 01:59,1000,2000,0", "2024-10-27 03:30,1030,2040,0", 1))),
+    *((f"minutes of degrees under {title}", ["--lon", "lon_deg", "--lat", "lat_deg"], f"id,time,lon_deg,lat_deg,{title}\na,2024-05-01,15,46,{one}\na,2024-05-02,15,46.0,{two}\n".encode(), None,
+       f"column 5 '{title}' has minutes or seconds of degrees, which the whole degrees that are read have not: write degrees with decimals, as degrees + minutes / 60 + seconds / 3600") for title, one, two in (
+           ("lat_min", "30.5", "31.25"), ("LatMin", "30", "31"), ("lon minutes", "5", "7"), ("latitude (minutes)", "30", "30"), ("lonmin", "30.512", "31.1"), ("Lat Sec", "5", "7.5"), ("longitud minutos", "5", "7"))),
     ("a first moment behind the last", ["--since", "2024-06-01", "--until", "2024-05-01"], b"id,date,x,y\na,2024-05-01,1000,2000\n", None,
      "since is '2024-06-01', which is later than until, '2024-05-01': no fix is of both"),
     ("a date in the columns of its parts", [], b"id,Year,Month,Day,Hour,Min,x,y\na,2024,5,1,7,30,1000,2000\na,2024,5,1,8,0,1030,2040\n", None,
@@ -384,6 +387,10 @@ READ = [
     *((f"no fix of before a deployment, {cell}", [], f"id,time,x,y,Predeployment Data\na,2024-05-01,1000,2000,{cell}\na,2024-05-02,1030,2040,{cell}\n".encode(),
        [*LINES, columns("id, time, x, y", "0.030 by 0.040", ", from 2024-05-01 to 2024-05-02"), "not read: Predeployment Data"], {"a": "a,1714521600,1000,2000\na,1714608000,1030,2040\n"})
       for cell in ("No", "", "none", "n/a")),
+    ("columns that say nothing of minutes of degrees", ["--zone", "33N"], b"id,time,lon,lat,lat_min,lat_max,minutes,sec\na,2024-05-01,15.5,46,45.5,46.5,3,4\na,2024-05-02,15.5,46,45.5,46.5,8,9\n",
+     ["longitude and latitude are projected into zone 33N; fixes by zone: 33N 2", "coordinates are rounded to whole metres, which moves a fix by at most 0.14 m",
+      columns("id, time, lon, lat", "0.000 by 0.000", " near 15.5 E 46.0 N, from 2024-05-01 to 2024-05-02"), "not read: lat_min, lat_max, minutes, sec"],
+     {"a": "a,1714521600,538716,5094169\na,1714608000,538716,5094169\n"}),
     ("columns that say nothing of halves of the day", [], b"id,time,x,y,country,band,daypart,nest,amp,pm25\n"
      b"a,2024-05-01,1000,2000,DE,FM,morning,12a,1,3\na,2024-05-02,1030,2040,DE,FM,evening,7p,2,4\n",
      [*LINES, columns("id, time, x, y", "0.030 by 0.040", ", from 2024-05-01 to 2024-05-02"), "not read: country, band, daypart, nest, amp, pm25"],
