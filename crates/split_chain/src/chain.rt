@@ -27,6 +27,7 @@ ghost use Rattle.split_said.specs.Order.{animals_in_order};
 use crate::missing::{tell_other_points, tell_unmet};
 use crate::passed::refuse_passed_over;
 use crate::placed::{choice_of, grid_of, moved_by, place};
+use crate::predeployment::tell_predeployment;
 use crate::read::{read, refuse_maker, refuse_other_animals, shown};
 use crate::steps::{counts_by, fates_by, fixes_by, leave_out_by, names_by, records_by, tracks_by};
 use crate::times::form_of_times;
@@ -467,5 +468,6 @@ pub fn split_export<P: Progress>(
     let mut said = Said::new(alloc);
     tell_other_points(alloc, &mut said, wish)?;
     tell_unmet(alloc, &mut said, bytes, asked, wish, &export)?;
+    tell_predeployment(alloc, &mut said, &export)?;
     split_read(alloc, asked, wish, &form, export, said)
 }

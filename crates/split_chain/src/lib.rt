@@ -6,13 +6,17 @@ mod beside;
 mod chain;
 mod joined;
 mod laws;
+mod minutes;
 mod missing;
 mod passed;
 mod placed;
+mod predeployment;
 mod read;
 mod steps;
+mod summers;
 mod systems;
 mod times;
+mod units;
 mod wish;
 
 pub use chain::{Split, split_export};

@@ -5,21 +5,24 @@ ghost use Rattle.split_refusal.specs.Refused.{IsOfNoFix};
 
 use crate::beside::refuse_beside;
 use crate::joined::{Unread, join_words, joined_titles, own_title, refuse_parts};
+use crate::minutes::refuse_minutes;
+use crate::summers::refuse_summers;
 use crate::systems::refuse_systems;
+use crate::units::refuse_units;
 use crate::wish::Wish;
 use range_plane::Scale;
 use split_clock::Clock;
 use split_export::{Export, Texts, look_at_unread};
 use split_reading::{Row, Told};
 use split_refusal::{Kind, Refusal, sign_of};
-use split_titles::{comes_to, has_word, is_of_places, not_read, trimmed};
+use split_titles::{comes_to, has_word, is_of_halves, is_of_places, not_read, trimmed};
 use std::alloc::{AllocError, Global};
 
 // The seconds of a day.
 const DAY: i128 = 86_400;
 
 // The zone that every clock without a name is of.
-const UTC: &str = "UTC";
+pub(crate) const UTC: &str = "UTC";
 
 // Titles of hours that are words of other things too, and words of titles of hours.
 const HOURS: [&[u8]; 6] = [b"std", b"ora", b"hr", b"hrs", b"uhr", b"hh"];
@@ -311,7 +314,7 @@ fn known_of(export: &Export<'_>, wish: &Wish<'_>) -> Known {
 fn what_is_passed(known: Known, title: &[u8], texts: &Texts) -> Option<Passed> {
     if !texts.are_there {
         None
-    } else if known.has_time && texts.are_halves {
+    } else if known.has_time && (texts.are_halves || is_of_halves(title)) {
         Some(Passed::Half)
     } else if texts.are_against() {
         Some(Passed::Side)
@@ -485,6 +488,9 @@ fn refuse_unread(
         return Err(passed_refusal(alloc, export, wish, unread, column, what));
     }
     refuse_systems(alloc, wish, export, unread)?;
+    refuse_units(alloc, export, unread)?;
+    refuse_summers(alloc, wish, export, unread)?;
+    refuse_minutes(alloc, export, unread)?;
     refuse_parts(alloc, export, unread)
 }
 

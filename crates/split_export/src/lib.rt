@@ -5,6 +5,7 @@
 mod asked;
 mod export;
 mod files;
+mod flags_look;
 mod laws;
 mod look;
 mod rules;
@@ -21,6 +22,7 @@ mod unread_words;
 pub use asked::Asked;
 pub use export::{Export, ExportFault, has_commas, read_export, titles_of};
 pub use files::{TrackFile, make_files};
+pub use flags_look::{Flag, flags_in};
 pub use laws::files_are_read_back;
 pub use look::{Look, fields_of_record, look_at_metres, most_moved, part_alike};
 pub use rules::{NotTaken, rules_of};

@@ -8,6 +8,7 @@ use range_plane::OutOfMemory;
 use split_filters::class_name;
 use split_reading::{Row, Told};
 use split_table::{TableFault, TableText};
+use split_titles::{clock_of_half, is_half_of_day, unit_named};
 use split_tracks::Reason;
 use std::alloc::Global;
 
@@ -21,7 +22,7 @@ pub struct Texts {
     pub are_there: bool,
     /// Whether they differ.
     pub are_several: bool,
-    /// Whether all are `am` or `pm`.
+    /// Whether all are halves of the day, as `am` and `pm`.
     pub are_halves: bool,
     /// Whether all are clocks, as 10:30 and 10:30:00.
     pub are_clocks: bool,
@@ -39,6 +40,8 @@ pub struct Texts {
     pub are_of_clocks: bool,
     /// Whether all may be zones of UTM or parts of such, or codes of systems.
     pub are_grid_zones: bool,
+    /// Whether all name units of lengths or angles.
+    pub are_units: bool,
     /// Whether one is a number other than 0 of a record that has no coordinates.
     pub is_beside_none: bool,
     // The sides that they say.
@@ -59,22 +62,19 @@ fn told_bytes(text: &[u8]) -> [u8; TOLD_BYTES] {
     bytes
 }
 
-// Whether a text is a half of the day.
-fn is_half(text: &[u8]) -> bool {
-    [b"am".as_slice(), b"pm", b"a.m.", b"p.m."]
-        .iter()
-        .any(|half| text.eq_ignore_ascii_case(half))
-}
-
 // Whether a text is one digit or two.
 fn is_pair(text: &[u8]) -> bool {
     1 <= text.len() && text.len() <= 2 && text.iter().all(u8::is_ascii_digit)
 }
 
-// Whether a text is a clock: two or three pairs of digits with colons between them.
+// Whether a text is a clock: two or three pairs of digits with colons between them, or one to three before a half of the day.
 fn is_clock(text: &[u8]) -> bool {
-    let colons = text.iter().filter(|byte| **byte == b':').count();
-    1 <= colons && colons <= 2 && text.split(|byte| *byte == b':').all(is_pair)
+    let (clock, least) = match clock_of_half(text) {
+        Some((clock, _)) => (clock, 0),
+        None => (text, 1),
+    };
+    let colons = clock.iter().filter(|byte| **byte == b':').count();
+    least <= colons && colons <= 2 && clock.split(|byte| *byte == b':').all(is_pair)
 }
 
 // Whether a text is an hour.
@@ -121,6 +121,7 @@ impl Texts {
             are_utc: true,
             are_of_clocks: true,
             are_grid_zones: true,
+            are_units: true,
             is_beside_none: false,
             sides: Sides::none(title),
             are_classes: true,
@@ -143,6 +144,7 @@ impl Texts {
 
     // The same with one text more, of a record with these degrees, or without coordinates.
     fn with(self, text: &[u8], degrees: Option<(i64, i64)>, is_nowhere: bool) -> Texts {
+        let text = text.trim_ascii();
         if self.is_passed(text, is_nowhere) {
             return self;
         }
@@ -161,7 +163,7 @@ impl Texts {
         Texts {
             are_there: true,
             are_several: self.are_several || first != told_bytes(text),
-            are_halves: self.are_halves && is_half(text),
+            are_halves: self.are_halves && is_half_of_day(text),
             are_clocks: self.are_clocks && is_clock(text),
             moments: self.moments.with(text),
             are_hours: self.are_hours && is_hour(text),
@@ -170,6 +172,7 @@ impl Texts {
             are_utc: self.are_utc && is_utc(text),
             are_of_clocks: self.are_of_clocks && (is_utc(text) || is_of_clock(text)),
             are_grid_zones: self.are_grid_zones && is_grid_zone(text),
+            are_units: self.are_units && unit_named(text).is_some(),
             is_beside_none: self.is_beside_none || is_nowhere && is_place(text),
             sides: self.sides.with(text, degrees),
             are_classes: self.are_classes && (is_number || is_letter),
@@ -217,6 +220,7 @@ impl Texts {
             || self.are_minutes
             || self.are_of_clocks
             || self.are_grid_zones
+            || self.are_units
             || self.sides.are_some()
             || self.are_classes
             || self.are_utc

@@ -5,6 +5,7 @@ use crate::forms::{has_iso_day, has_iso_form, without_blanks};
 use crate::push::push;
 use range_plane::OutOfMemory;
 use split_times::Forms;
+use split_titles::clock_of_half;
 use std::alloc::{AllocError, Global};
 
 // The most bytes of a word that may stand for what is missing.
@@ -112,31 +113,70 @@ fn has_form(form: &[u8], cell: &[u8]) -> bool {
     }
 }
 
-// Appends the forms of a day and a clock that a text has, of which so many stand before. Answers how many there are then.
+// Appends the forms of a day and a clock that a text has, of which so many stand before, the first behind these words. Answers how
+// many there are then.
 fn push_forms(
     alloc: Global,
     text: &mut Vec<u8>,
     cell: &[u8],
     day: &str,
     before: usize,
+    words: &str,
 ) -> Result<usize, OutOfMemory> {
     let mut count = before;
     for clock in CLOCKS {
         let mut form = Vec::from_slice(alloc, day.as_bytes())?;
         push(&mut form, clock)?;
         if has_form(&form, cell) {
-            let start = if count == 0 {
-                ": name its form, as by --time-format '"
-            } else {
-                " or '"
-            };
-            push(text, start)?;
+            push(text, if count == 0 { words } else { " or '" })?;
             text.extend_from_slice(&form)?;
             push(text, "'")?;
             count = count.saturating_add(1);
         }
     }
     Ok(count)
+}
+
+// Appends the forms of days and clocks that a text has, the first behind these words. Answers how many there are.
+fn push_all_forms(
+    alloc: Global,
+    text: &mut Vec<u8>,
+    cell: &[u8],
+    words: &str,
+) -> Result<usize, OutOfMemory> {
+    let mut count = 0;
+    for day in DAYS {
+        count = push_forms(alloc, text, cell, day, count, words)?;
+    }
+    Ok(count)
+}
+
+/// The clock before a half of the day that is written as no form knows it, and whether this half is the one behind noon.
+pub(crate) fn odd_half(cell: &[u8]) -> Option<(&[u8], bool)> {
+    match cell {
+        [.., b'A' | b'a' | b'P' | b'p', b'M' | b'm'] => None,
+        _ => clock_of_half(cell),
+    }
+}
+
+// The word that a form knows for a half of the day.
+fn half_word(is_afternoon: bool) -> &'static str {
+    if is_afternoon { "PM" } else { "AM" }
+}
+
+// A clock with the word for its half of the day behind it.
+fn with_half(alloc: Global, clock: &[u8], is_afternoon: bool) -> Result<Vec<u8>, OutOfMemory> {
+    let mut text = Vec::from_slice(alloc, clock)?;
+    push(&mut text, " ")?;
+    push(&mut text, half_word(is_afternoon))?;
+    Ok(text)
+}
+
+/// Appends how a half of the day is to be written.
+pub(crate) fn push_half(text: &mut Vec<u8>, is_afternoon: bool) -> Result<(), AllocError> {
+    push(text, ": write its half of the day as ")?;
+    push(text, half_word(is_afternoon))?;
+    push(text, " at its end")
 }
 
 // Whether a text has digits, and does not begin with a day of ISO.
@@ -185,11 +225,19 @@ pub(crate) fn push_form(alloc: Global, text: &mut Vec<u8>, cell: &[u8]) -> Resul
         push(text, ": write its decimals behind a point")?;
         return Ok(());
     }
-    let mut count = 0;
-    for day in DAYS {
-        count = push_forms(alloc, text, cell, day, count)?;
+    if push_all_forms(alloc, text, cell, ": name its form, as by --time-format '")? > 0 {
+        return Ok(());
     }
-    if count == 0 && has_other_digits(cell) {
+    if let Some((clock, is_afternoon)) = odd_half(cell) {
+        push_half(text, is_afternoon)?;
+        let own = with_half(alloc, clock, is_afternoon)?;
+        push_all_forms(
+            alloc,
+            text,
+            &own,
+            ", and name its form, as by --time-format '",
+        )?;
+    } else if has_other_digits(cell) {
         push(text, ": if it is one, name its form, by --time-format")?;
     }
     Ok(())

@@ -5,10 +5,11 @@ use crate::forms::{has_iso_day, has_iso_form, without_blanks};
 use crate::kind::Kind;
 use crate::push::{Field, push, push_field};
 use crate::refusal::Sentence;
-use crate::remedies::{form_of_digits, push_form};
+use crate::remedies::{form_of_digits, odd_half, push_form, push_half};
 use range_plane::OutOfMemory;
 use split_clock::NoMoment;
 use split_times::{NumberFault, TimeFault, iso_moment};
+use split_titles::clock_of_half;
 use std::alloc::{AllocError, Global};
 
 // Why a field is no time that is read.
@@ -101,7 +102,10 @@ fn is_missing(cell: &[u8]) -> bool {
 
 // Whether a text is a clock alone.
 fn is_clock(cell: &[u8]) -> bool {
-    let text = without_blanks(cell);
+    let text = match clock_of_half(cell) {
+        Some((clock, _)) => clock,
+        None => without_blanks(cell),
+    };
     let are_its = |byte: &u8| byte.is_ascii_digit() || *byte == b':' || *byte == b'.';
     text.contains(&b':') && text.iter().all(are_its)
 }
@@ -217,6 +221,9 @@ fn form_sentence(alloc: Global, field: Field<'_>, forms: &str) -> Result<Sentenc
     let mut text = Vec::new(alloc);
     push_field(&mut text, field, " and not a time of the form ")?;
     push_forms(&mut text, forms)?;
+    if let (true, Some((_, is_afternoon))) = (forms.contains("%p"), odd_half(field.cell)) {
+        push_half(&mut text, is_afternoon)?;
+    }
     Ok(Sentence {
         kind: Kind::Time,
         text,

@@ -5,7 +5,7 @@ use crate::sides::{EAST, NORTH, is_first};
 use crate::words::{first_word, is_one_word};
 
 // Words for coordinates that are counted to the east.
-const EASTINGS: [&str; 33] = [
+const EASTINGS: [&str; 32] = [
     "easting",
     "eastings",
     "rechtswert",
@@ -38,11 +38,10 @@ const EASTINGS: [&str; 33] = [
     "długość",
     "hosszúság",
     "долгота",
-    "Долгота",
 ];
 
 // Words for coordinates that are counted to the north.
-const NORTHINGS: [&str; 32] = [
+const NORTHINGS: [&str; 27] = [
     "northing",
     "northings",
     "hochwert",
@@ -64,17 +63,12 @@ const NORTHINGS: [&str; 32] = [
     "leveys",
     "leveysaste",
     "šířka",
-    "Šířka",
     "šírka",
-    "Šírka",
     "širina",
-    "Širina",
     "szerokość",
     "szélesség",
     "широта",
-    "Широта",
     "ширина",
-    "Ширина",
 ];
 
 // The first word of a title for coordinates of this axis; that of a side is one where it stands alone.

@@ -4,7 +4,7 @@ use crate::clock_words::{clock_word, is_official};
 use crate::words::{begins_at, behind, is_one_of, start_of, word_from};
 
 // Words for the clock of a place that is not named, in the languages of tables.
-const NAMELESS: [&str; 24] = [
+const NAMELESS: [&str; 76] = [
     "local",
     "locale",
     "locales",
@@ -29,14 +29,67 @@ const NAMELESS: [&str; 24] = [
     "lokalzeit",
     "ortszeit",
     "wallclock",
+    "locais",
+    "locali",
+    "locala",
+    "locală",
+    "lokala",
+    "lokalni",
+    "lokalna",
+    "lokalnega",
+    "lokalnego",
+    "lokalnem",
+    "lokální",
+    "lokalne",
+    "lokaltiden",
+    "lokaltime",
+    "místní",
+    "mistni",
+    "místního",
+    "mistniho",
+    "miestny",
+    "miestneho",
+    "krajevni",
+    "krajevna",
+    "mjesno",
+    "mjesni",
+    "mesno",
+    "miejscowy",
+    "miejscowego",
+    "plaatselijk",
+    "plaatselijke",
+    "plaatselijketijd",
+    "ortstid",
+    "paikallinen",
+    "paikallisen",
+    "paikallista",
+    "paikallisaika",
+    "paikallisaikaa",
+    "helyi",
+    "kohalik",
+    "vietējais",
+    "vietinis",
+    "vietos",
+    "yerel",
+    "местное",
+    "местный",
+    "местного",
+    "местному",
+    "місцевий",
+    "місцевого",
+    "местно",
+    "локално",
+    "локальное",
+    "τοπική",
 ];
 
 // Words for other clocks that are not that of UTC. Abbreviations of zones that are other words too, as `cat`, `eat`, `ist`, `wet` and
 // the German `Ast` and `Pkt`, are none.
-const LOCAL_WORDS: [&str; 38] = [
+const LOCAL_WORDS: [&str; 41] = [
     "dst", "cet", "cest", "mez", "mesz", "est", "edt", "cst", "cdt", "mst", "mdt", "pst", "pdt",
     "hst", "akst", "akdt", "adt", "nst", "ndt", "brt", "clt", "bst", "eet", "eest", "msk", "wat",
     "sast", "hkt", "sgt", "jst", "kst", "awst", "acst", "acdt", "aest", "aedt", "nzst", "nzdt",
+    "seč", "selč", "мск",
 ];
 
 // What names of zones begin with, before a `/`.
@@ -76,7 +129,50 @@ const ZONES_OF_UTC: [&str; 9] = [
 ];
 
 // Words for the clock of UTC that is not named so.
-const WORDS_OF_UTC: [&str; 3] = ["zulu", "universal", "greenwich"];
+const WORDS_OF_UTC: [&str; 42] = [
+    "zulu",
+    "universal",
+    "greenwich",
+    "weltzeit",
+    "wereldtijd",
+    "universale",
+    "universel",
+    "universelle",
+    "universeel",
+    "universele",
+    "universell",
+    "universellt",
+    "universaltid",
+    "universaltiden",
+    "verdenstid",
+    "världstid",
+    "världstiden",
+    "yleisaika",
+    "maailmanaika",
+    "světový",
+    "svetovy",
+    "světového",
+    "svetovni",
+    "svetovnega",
+    "univerzalni",
+    "univerzální",
+    "univerzalno",
+    "uniwersalny",
+    "uniwersalnego",
+    "egyetemes",
+    "világidő",
+    "vilagido",
+    "greenwichský",
+    "greenwichi",
+    "гринвич",
+    "гринвичу",
+    "гринвича",
+    "всемирное",
+    "всемирного",
+    "всемирному",
+    "координированное",
+    "всесвітній",
+];
 
 // What a title says of a clock.
 #[derive(Clone, Copy, PartialEq, Eq, Debug)]

@@ -258,7 +258,7 @@ fn is_lettered(word: &[u8], facts: Facts) -> bool {
 fn says_side(word: &[u8], rest: &[u8], facts: Facts) -> bool {
     let is_one = facts.is_plain && is_written_out(word, facts.role) || is_lettered(word, facts);
     let is_turned = is_one_of(word, &TURNED) && !facts.is_straight;
-    is_turned || is_one && may_stand_before(rest)
+    is_turned || is_one && (!is_of_degrees(facts.role) || may_stand_before(rest))
 }
 
 // The word by which the title of a coordinate says that it is counted to the west, or to the south, of two coordinates of which the

@@ -207,13 +207,17 @@ fn unknown_word(title: &[u8]) -> Option<&[u8]> {
     }
 }
 
-// What a title says of another unit than metres, or than degrees.
-pub(crate) fn unit_said<'t>(title: &'t [u8], is_metres: bool) -> Option<&'t [u8]> {
+// What a text says of another unit than metres, or than degrees, by words that are known.
+pub(crate) fn known_unit(text: &[u8], is_metres: bool) -> Option<&[u8]> {
     let own = if is_metres {
-        first_word(title, &LENGTHS).or(first_of_metres(title))
+        first_word(text, &LENGTHS).or(first_of_metres(text))
     } else {
-        first_word(title, &ANGLES).or(first_power(title))
+        first_word(text, &ANGLES).or(first_power(text))
     };
-    own.or(multiple_said(title, is_metres))
-        .or(unknown_word(title))
+    own.or(multiple_said(text, is_metres))
+}
+
+// What a title says of another unit than metres, or than degrees.
+pub(crate) fn unit_said(title: &[u8], is_metres: bool) -> Option<&[u8]> {
+    known_unit(title, is_metres).or(unknown_word(title))
 }

@@ -22,9 +22,33 @@ fn letter_of(byte: u8) -> Letter {
     }
 }
 
+// The small letter of one that two bytes write, a Latin one of western or central Europe or a Cyrillic one; other letters as they are.
+fn small_pair(first: u8, second: u8) -> (u8, u8) {
+    match (first, second) {
+        (0xC3, 0x80..=0x96 | 0x98..=0x9E) => (first, second | 0x20),
+        (0xC4, 0x80..=0xB7) | (0xC5, 0x8A..=0xB7) => (first, second | 1),
+        (0xC4, 0xB9 | 0xBB | 0xBD) => (first, second.saturating_add(1)),
+        (0xC5, 0x81 | 0x83 | 0x85 | 0x87 | 0xB9 | 0xBB | 0xBD) => (first, second.saturating_add(1)),
+        (0xD0, 0x80..=0x8F) => (0xD1, second | 0x10),
+        (0xD0, 0x90..=0x9F) => (first, second | 0x20),
+        (0xD0, 0xA0..=0xAF) => (0xD1, second & 0x8F),
+        _ => (first, second),
+    }
+}
+
+// Whether a byte begins a letter that `small_pair` knows.
+fn begins_pair(byte: u8) -> bool {
+    matches!(byte, 0xC3 | 0xC4 | 0xC5 | 0xD0 | 0xD1)
+}
+
 // Whether a byte goes on with a character of UTF-8.
 fn goes_on(byte: u8) -> bool {
     0x80 <= byte && byte < 0xC0
+}
+
+// Whether two bytes write a great letter that `small_pair` knows.
+fn is_great_pair(first: u8, second: u8) -> bool {
+    small_pair(first, second) != (first, second)
 }
 
 // What the last byte of a text is, by those before it.
@@ -33,6 +57,7 @@ fn last_letter(text: &[u8]) -> Letter {
         [.., 0xC2, last] if goes_on(*last) => Letter::Sign,
         [.., 0xE2, last] if goes_on(*last) => Letter::Sign,
         [.., 0xE2, between, last] if goes_on(*between) && goes_on(*last) => Letter::Sign,
+        [.., first, last] if is_great_pair(*first, *last) => Letter::Great,
         [.., last] => letter_of(*last),
         [] => Letter::Sign,
     }
@@ -53,10 +78,21 @@ fn joins(before: Letter, letter: Letter) -> bool {
     }
 }
 
+// Whether a text begins with the first byte of a letter that `small_pair` knows.
+fn is_inside_pair(text: &[u8]) -> bool {
+    match text {
+        [first, second, ..] => begins_pair(*first) && goes_on(*second),
+        _ => false,
+    }
+}
+
 // Whether a word goes on at a place of a title.
 fn goes_on_at(title: &[u8], place: usize) -> bool {
     match place.checked_sub(1) {
-        Some(before) => joins(letter_at(title, before), letter_at(title, place)),
+        Some(before) => {
+            is_inside_pair(behind(title, before))
+                || joins(letter_at(title, before), letter_at(title, place))
+        }
         None => false,
     }
 }
@@ -134,11 +170,33 @@ pub(crate) fn word_before(title: &[u8], place: usize) -> &[u8] {
     b""
 }
 
+// The byte at a place of a text in small letters.
+fn small_at(text: &[u8], place: usize) -> u8 {
+    let (start, rest) = (start_of(text, place), behind(text, place));
+    match (start, rest) {
+        (_, [first, second, ..]) if begins_pair(*first) => small_pair(*first, *second).0,
+        ([.., first], [second, ..]) if begins_pair(*first) => small_pair(*first, *second).1,
+        (_, [only, ..]) => only.to_ascii_lowercase(),
+        (_, []) => 0,
+    }
+}
+
+// Whether two words are the same in small letters.
+pub(crate) fn is_same(word: &[u8], other: &[u8]) -> bool {
+    if word.len() != other.len() {
+        return false;
+    }
+    for place in 0..word.len() {
+        if small_at(word, place) != small_at(other, place) {
+            return false;
+        }
+    }
+    true
+}
+
 // Whether a word is one of these, in small or great letters.
 pub(crate) fn is_one_of(word: &[u8], words: &[&str]) -> bool {
-    words
-        .iter()
-        .any(|own| word.eq_ignore_ascii_case(own.as_bytes()))
+    words.iter().any(|own| is_same(word, own.as_bytes()))
 }
 
 /// The first word of a title that is one of these, in small or great letters. Words of a title stand between signs that are no

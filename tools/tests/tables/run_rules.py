@@ -139,6 +139,20 @@ REFUSED = [
       for one, other in (("south", "north"), ("S.", "N."), ("SOUTH", "S"), ("Sud", "Nord"), ("Southern hemisphere", "northern hemisphere"), ("süd", "Norden"), ("sur", "sur"),
                          ("West", "East"), ("w.", "E"), ("Ouest", "Est"), ("oeste", "leste"), ("west longitude", "west longitude"), ("O", "E"))),
     ("halves of the day", [], b"id,time,x,y,half\na,2024-05-01 01:00,1000,2000,AM\na,2024-05-01 01:30,1030,2040,pm\n", None, "column 5 'half' has halves of the day"),
+    *((f"halves of the day as {one!r} and {other!r} under {title}", [], f"id,time,x,y,{title}\na,2024-05-01 01:00,1000,2000,{one}\na,2024-05-01 01:30,1030,2040,{other}\n".encode(), None,
+       f"column 5 '{title}' has halves of the day, and is not read: write them AM and PM and join it to the time") for title, one, other in (
+           ("half", "AM ", " pm"), ("half", "a. m.", "p. m."), ("h", "a.\u00a0m.", "p.\u202fm."), ("note", "vorm.", "nachm."), ("x5", "Vormittag", "NACHMITTAG"), ("pul dne", "dop.", "odp."), ("dan", "dopoldne", "popoldne"),
+           ("napszak", "délelőtt", "DÉLUTÁN"), ("ampm", "0", "1"), ("AM/PM", "A", "P"), ("am.pm", "morning", "evening"), ("AmPm", "1", "1"))),
+    *((f"clocks of 12 hours beside days, {one}", [], f"id,date,x,y,c\na,2024-05-01,1000,2000,{one}\na,2024-05-01,1030,2040,{other}\n".encode(), None,
+       "column 5 'c' has hours, which the days of the time have not: join them, as by --time 'date,c', or remove it") for one, other in (
+           ("03:00 nachm.", "04:00 nachm."), ("3:00 AM", "3:30 pm"), ("3 PM", "4 PM"), ("3pm", "11am"), ("10:30 ", "11:00 "), ("03:00:00 a. m.", "04:00:00 p. m."), ("03:00 dop.", "03:00 odp."), ("3:00 du matin", "4:00 du soir"))),
+    *((f"a half of the day behind a time, {cell}", words, f"id,date,x,y\na,{cell},1000,2000\n".encode(), 1, f"date is '{cell}' and not a time {what}") for words, cell, what in (
+        ([], "2024-05-01 03:00 nachm.", "such as 2024-05-01 00:30:04: write its half of the day as PM at its end, and name its form, as by --time-format '%Y-%m-%d %I:%M %p'"),
+        ([], "01.05.2024 03:00:10 vorm.", "such as 2024-05-01 00:30:04: write its half of the day as AM at its end, and name its form, as by --time-format '%d.%m.%Y %I:%M:%S %p'"),
+        ([], "2024-05-01 03:00 AM ", "such as 2024-05-01 00:30:04: write its half of the day as AM at its end, and name its form, as by --time-format '%Y-%m-%d %I:%M %p'"),
+        ([], "5/13/2024 1:30 p. m.", "such as 2024-05-01 00:30:04: write its half of the day as PM at its end, and name its form, as by --time-format '%m/%d/%Y %I:%M %p'"),
+        (["--time-format", "%Y-%m-%d %I:%M %p"], "2024-05-01 03:00 odp.", "of the form %Y-%m-%d %I:%M %p: write its half of the day as PM at its end"))),
+    ("a clock of 12 hours alone", [], b"id,time,x,y\na,3:00 nachm.,1000,2000\n", 1, "which is a clock without a day: name the column of the day too"),
     ("a clock beside days", [], b"id,date,x,y,Uhrzeit\na,2024-05-01,1000,2000,10:30\na,2024-05-01,1030,2040,9:15\n", None, "column 5 'Uhrzeit' has hours, which the days of the time have not: join them, as by --time 'date,Uhrzeit', or remove it"),
     ("hours beside days", [], b"id,date,x,y,hora\na,2024-05-01,1000,2000,7\na,2024-05-01,1030,2040,23\n", None, "column 5 'hora' has hours, which the days of the time have not: join them, as by --time 'date,hora' --time-format '%Y-%m-%d %H', or remove it"),
     ("an offset of times that begins as UTC", [], b"id,time,x,y,utc_offset\na,2024-03-31 00:00,1000,2000,Z\na,2024-03-31 00:30,1030,2040,+00:00\na,2024-03-31 01:30,1060,2040,+01:00\n", None,
@@ -178,6 +192,31 @@ REFUSED = [
       for what, cell in (("of a projection of Mercator", "EPSG:3857"), ("of a projection of Mercator", "900913"), ("longitude and latitude", "EPSG:4326"), ("longitude and latitude", "4258"))),
     *((f"a system of option --crs, {cell}", ["--crs", cell], OWN.encode(), None, f"--crs: {cell} {what}") for cell, what in (
         ("EPSG:4326", "has longitude and latitude"), ("4258", "has longitude and latitude"), ("EPSG:3857", "is a projection of Mercator"), ("urn:ogc:def:crs:EPSG::3395", "is a projection of Mercator"))),
+    *((f"metres that are said to be in another unit, {cell}, under {title}", [], f"id,date,x,y,{title}\na,2024-05-01,561000,5134000,{cell}\na,2024-05-02,561030,5134040,{cell}\n".encode(), None,
+       f"column 5 '{title}' says that coordinates are in another unit than metres, in which they are read: write metres and remove it, or remove it where it is not theirs") for title, cell in (
+           ("unit", "ft"), ("units", "feet"), ("Units", "US survey foot"), ("coord_unit", "km"), ("coordUnits", "dm"), ("Einheit", "Kilometer"), ("unidad", "pies"), ("unité", "kilomètres"), ("UNITÉ", "km"), ("xy units", "yards"),
+           ("map_units", "us-ft"), ("unit", "decimetres"), ("unit", "cm "))),
+    *((f"a unit of coordinates, {cell}, under {title}", words, f"id,date,{pair},{title}\na,2024-05-01,{one},{cell}\na,2024-05-02,{two},{other}\n".encode(), None, f"column 5 '{title}' {what}")
+      for words, pair, one, two, title, cell, other, what in (
+          ([], "x,y", "561000,5134000", "561030,5134040", "unit", "m", "ft", "has several units: write all coordinates in metres, or in degrees with decimals, and remove it"),
+          ([], "x,y", "561000,5134000", "561030,5134040", "units", "degrees", "degrees", "says that coordinates are in degrees, and they are read as metres: name them by --lon and --lat"),
+          ([], "x,y", "561000,5134000", "561030,5134040", "coordinate units", "gon", "gon", "says that coordinates are in degrees, and they are read as metres"),
+          ([], "lon,lat", "15.8,46.3", "15.9,46.4", "unit", "gon", "gon", "says that coordinates are in another unit than degrees, in which they are read: write degrees with decimals and remove it"),
+          ([], "lon,lat", "1.5,0.8", "1.4,0.8", "coord_unit", "radians", "radians", "says that coordinates are in another unit than degrees"))),
+    *((f"a summer time that UTC has not, {cell}, under {title}", words, f"id,time,x,y,{title}\na,2024-01-01 01:00,1000,2000,{other}\na,2024-07-01 02:00,1030,2040,{cell}\n".encode(), None,
+       f"column 5 '{title}' says that times are by the clock of a summer (record 2), and they are read as those of UTC: name their zone, as by --tz Europe/Ljubljana, or write the offset behind each time, and remove it")
+      for words, title, cell, other in (
+          ([], "DST", "1", "0"), ([], "dst_flag", "yes", "no"), ([], "summer_time", "TRUE", "FALSE"), ([], "isdst", "1.0", "0.0"), (["--tz", "UTC"], "isDST", "Y", "N"), ([], "Sommerzeit", "ja", "nein"), ([], "heure d'été", "oui", "non"),
+          ([], "horario_verano", "si", "no"), ([], "letní čas", "ano", "ne"), ([], "Daylight Saving Time", "x", ""), ([], "dst", "DST", "ST"))),
+    *((f"a summer time that the clock has not: {what}", ["--tz", "Europe/Ljubljana"], f"id,time,x,y,dst\na,{one}\na,{two}\n".encode(), None,
+       f"column 5 'dst' says otherwise than the clock of Europe/Ljubljana which times are of the summer (record {record}): write the offset behind each time, as in 2024-05-01 00:30+02:00, or name their own zone, by --tz, and remove it")
+      for what, one, two, record in (
+          ("none in July", "2024-01-01 01:00,1000,2000,0", "2024-07-01 02:00,1030,2040,0", 2), ("one in January", "2024-01-01 01:00,1000,2000,1", "2024-07-01 02:00,1030,2040,1", 1),
+          ("the second of an hour that comes twice", "2024-10-27 01:30,1000,2000,1", "2024-10-27 02:30,1030,2040,0", 2), ("the first day", "2024-03-31 00:30,1000,2000,0", "2024-03-31 03:30,1030,2040,0", 2),
+          ("the last hour", "2024-10-27 01:59,1000,2000,0", "2024-10-27 03:30,1030,2040,0", 1))),
+    *((f"minutes of degrees under {title}", ["--lon", "lon_deg", "--lat", "lat_deg"], f"id,time,lon_deg,lat_deg,{title}\na,2024-05-01,15,46,{one}\na,2024-05-02,15,46.0,{two}\n".encode(), None,
+       f"column 5 '{title}' has minutes or seconds of degrees, which the whole degrees that are read have not: write degrees with decimals, as degrees + minutes / 60 + seconds / 3600") for title, one, two in (
+           ("lat_min", "30.5", "31.25"), ("LatMin", "30", "31"), ("lon minutes", "5", "7"), ("latitude (minutes)", "30", "30"), ("lonmin", "30.512", "31.1"), ("Lat Sec", "5", "7.5"), ("longitud minutos", "5", "7"))),
     ("a first moment behind the last", ["--since", "2024-06-01", "--until", "2024-05-01"], b"id,date,x,y\na,2024-05-01,1000,2000\n", None,
      "since is '2024-06-01', which is later than until, '2024-05-01': no fix is of both"),
     ("a date in the columns of its parts", [], b"id,Year,Month,Day,Hour,Min,x,y\na,2024,5,1,7,30,1000,2000\na,2024,5,1,8,0,1030,2040\n", None,
@@ -330,6 +369,32 @@ READ = [
      b"a,2024-05-01 01:00,1000,2000,forest,500123.5,1,x,UTC,9,Europe/Vienna\na,2024-05-02 23:00,1030,2040,meadow,500153.5,23,y,Z,10,Europe/Vienna\n",
      [*LINES, columns("id, date, x, y", "0.030 by 0.040", ", from 2024-05-01 to 2024-05-02"), "not read: zone name, utm_x, hour_utc, UTC note, time zone, light hours, study-timezone"],
      {"a": "a,1714525200,1000,2000\na,1714690800,1030,2040\n"}),
+    ("columns that say nothing of the unit of coordinates", [], b"id,time,x,y,unit,alt_unit,speed unit,management unit,UnitID,coord_units,depth units,unit name,units\n"
+     b"a,2024-05-01,1000,2000,m,ft,km/h,MI,12,metres,dm,ft hill,km/h\na,2024-05-02,1030,2040,m,ft,km/h,MI,12,metres,dm,ft hill,km/h\n",
+     [*LINES, columns("id, time, x, y", "0.030 by 0.040", ", from 2024-05-01 to 2024-05-02"), "not read: unit, alt_unit, speed unit, management unit, UnitID, coord_units, depth units, unit name, units"],
+     {"a": "a,1714521600,1000,2000\na,1714608000,1030,2040\n"}),
+    ("a summer time that is that of the clock", ["--tz", "Europe/Ljubljana"], b"id,time,x,y,dst\na,2024-03-31 01:30,1000,2000,0\na,2024-03-31 03:30,1030,2040,1\na,2024-07-01 02:00,1030,2040,1\na,2024-10-27 01:30,1030,2040,1\na,2024-10-27 03:30,1030,2040,0\n",
+     ["times are read as ISO text, in Europe/Ljubljana", *LINES, columns("id, time, x, y", "0.030 by 0.040", ", from 2024-03-31 to 2024-10-27"), "not read: dst"],
+     {"a": "a,1711845000,1000,2000\na,1711848600,1030,2040\na,1719792000,1030,2040\na,1729985400,1030,2040\na,1729996200,1030,2040\n"}),
+    ("columns that say nothing of a summer time", [], b"id,time,x,y,dst,summer,DST_km,summer time\n"
+     b"a,2024-05-01T00:00Z,1000,2000,1,yes,1,12:00\na,2024-05-02T00:00+02:00,1030,2040,1,no,7,13:00\n",
+     [*LINES, columns("id, time, x, y", "0.030 by 0.040", ", from 2024-05-01 to 2024-05-01"), "not read: dst, summer, DST_km, summer time"],
+     {"a": "a,1714521600,1000,2000\na,1714600800,1030,2040\n"}),
+    *((f"fixes of before a deployment, by {title}", [], f"id,time,x,y,{title}\na,2024-05-01,1000,2000,{yes}\na,2024-05-02,1030,2040,{no}\na,2024-05-03,,,{yes}\n".encode(),
+       [f"1 fixes are of before the deployment, by {title}: are they the animal's?", "1 records have no coordinates: left out", *LINES, columns("id, time, x, y", "0.030 by 0.040", ", from 2024-05-01 to 2024-05-02"), f"not read: {title}"],
+       {"a": "a,1714521600,1000,2000\na,1714608000,1030,2040\n"})
+      for title, yes, no in (("Predeployment Data", "Yes", "No"), ("Predeployment.Data", "yes", ""), ("pre-deployment", "TRUE", "FALSE"), ("PreDeployment", "1", "0"))),
+    *((f"no fix of before a deployment, {cell}", [], f"id,time,x,y,Predeployment Data\na,2024-05-01,1000,2000,{cell}\na,2024-05-02,1030,2040,{cell}\n".encode(),
+       [*LINES, columns("id, time, x, y", "0.030 by 0.040", ", from 2024-05-01 to 2024-05-02"), "not read: Predeployment Data"], {"a": "a,1714521600,1000,2000\na,1714608000,1030,2040\n"})
+      for cell in ("No", "", "none", "n/a")),
+    ("columns that say nothing of minutes of degrees", ["--zone", "33N"], b"id,time,lon,lat,lat_min,lat_max,minutes,sec\na,2024-05-01,15.5,46,45.5,46.5,3,4\na,2024-05-02,15.5,46,45.5,46.5,8,9\n",
+     ["longitude and latitude are projected into zone 33N; fixes by zone: 33N 2", "coordinates are rounded to whole metres, which moves a fix by at most 0.14 m",
+      columns("id, time, lon, lat", "0.000 by 0.000", " near 15.5 E 46.0 N, from 2024-05-01 to 2024-05-02"), "not read: lat_min, lat_max, minutes, sec"],
+     {"a": "a,1714521600,538716,5094169\na,1714608000,538716,5094169\n"}),
+    ("columns that say nothing of halves of the day", [], b"id,time,x,y,country,band,daypart,nest,amp,pm25\n"
+     b"a,2024-05-01,1000,2000,DE,FM,morning,12a,1,3\na,2024-05-02,1030,2040,DE,FM,evening,7p,2,4\n",
+     [*LINES, columns("id, time, x, y", "0.030 by 0.040", ", from 2024-05-01 to 2024-05-02"), "not read: country, band, daypart, nest, amp, pm25"],
+     {"a": "a,1714521600,1000,2000\na,1714608000,1030,2040\n"}),
     ("columns that say nothing of hours beside days", [], b"id,date,x,y,HR (bpm),x_std,hour\na,2024-05-01,1000,2000,80,1.5,12\na,2024-05-02,1030,2040,95,2.5,12\n",
      [*LINES, columns("id, date, x, y", "0.030 by 0.040", ", from 2024-05-01 to 2024-05-02"), "not read: HR (bpm), x_std, hour"],
      {"a": "a,1714521600,1000,2000\na,1714608000,1030,2040\n"}),

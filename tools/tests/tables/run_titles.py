@@ -238,6 +238,10 @@ CLOCKS = [
     ("time +9:30", "+9:30", None),
     ("local +0530", "local", EXAMPLE),
     ("time [-03:30]", "-03:30", None),
+    *((title, title.split()[at], EXAMPLE) for title, at in (
+        ("místní čas", 0), ("MÍSTNÍ ČAS", 0), ("mistni cas", 0), ("čas lokální", 1), ("lokalni čas", 0), ("Krajevni čas", 0), ("miestny čas", 0), ("lokalno vrijeme", 0), ("paikallinen aika", 0),
+        ("Paikallisaika", 0), ("plaatselijke tijd", 0), ("lokale tijd", 0), ("lokaltid", 0), ("lokal tid", 0), ("Lokal tidspunkt", 0), ("местное время", 0), ("Местное время", 0), ("МЕСТНОЕ ВРЕМЯ", 0),
+        ("czas lokalny", 1), ("czas miejscowy", 1), ("hora local", 1), ("horário local", 1), ("ora locale", 1), ("helyi idő", 0), ("ora locală", 1), ("čas SEČ", 1), ("Время МСК", 1))),
 ]
 # Titles of times that say the clock of UTC, and by which word.
 OF_UTC = [
@@ -245,7 +249,9 @@ OF_UTC = [
     ("time +00:00", "+00:00"), ("time -00:00", "-00:00"), ("time (-0)", "-0"), ("time {+0000}", "+0000"), ("UTC (+0)", "UTC"), ("UTC+0", "UTC"),
     ("time (Z)", "Z"), ("time UTC - 2024", "UTC"), ("utc plus", "utc"), ("timeUTC", "UTC"), ("time_utc_24", "utc"), ("time..UTC.0.", "UTC"),
     ("Sommerzeit (UTC)", "UTC"), ("Mountain time (UTC)", "UTC"), ("time UTC (Eisenstadt)", "UTC"), ("time (Zulu)", "Zulu"), ("Universal time", "Universal"),
-    ("Greenwich Mean Time", "Greenwich"),
+    ("Greenwich Mean Time", "Greenwich"), ("Weltzeit", "Weltzeit"), ("světový čas", "světový"), ("SVĚTOVÝ ČAS", "SVĚTOVÝ"), ("univerzalni čas", "univerzalni"), ("yleisaika", "yleisaika"),
+    ("wereldtijd", "wereldtijd"), ("Universell tid", "Universell"), ("verdenstid", "verdenstid"), ("världstid", "världstid"), ("всемирное время", "всемирное"), ("время по Гринвичу", "Гринвичу"),
+    ("czas uniwersalny", "uniwersalny"), ("tempo universale", "universale"), ("temps universel", "universel"), ("egyetemes idő", "egyetemes"), ("letní čas (UTC)", "UTC"), ("czas GMT", "GMT"),
 ]
 # Titles of times that say no clock.
 NO_CLOCKS = [
@@ -254,7 +260,8 @@ NO_CLOCKS = [
     "time_z", "z", "cat", "time cat", "EAT", "Ist", "ist_zeit", "Art", "pet_time", "cot", "time west", "wet time", "Ast", "Pkt.Zeit", "best time", "time/Asia",
     "Date (EU/US)", "date/time", "Asia/2024", "Asia", "Eurasia/Vienna", "time (raw)", "time (GPS)", "time [sensor]", "time..raw.", "GPS Fix Time", "start time",
     "time (s)", "time (fix)", "Date (YYYYMMDD)", "Datum (TTMMJJJJ)", "Time (hhmm)", "timestamp (ISO)", "time (posixct)", "standardized time", "time standard",
-    "summer", "winter_date", "vienna_fix", "Date...Time.", "time.", "date (d)", "central_fix",
+    "summer", "winter_date", "vienna_fix", "Date...Time.", "time.", "date (d)", "central_fix", "čas", "ČAS", "datum a čas", "Datum in ura", "aika", "päivämäärä ja kello", "datum en tijd", "Dato og klokkeslett",
+    "tidpunkt", "время", "Дата и время", "data i godzina", "data e hora", "data e ora", "dátum és idő", "Date et heure", "letni_datum", "nyári dátum", "zimowy_fix",
 ]
 # Titles of times that say a clock, by which word, another zone that is named, and the zone of the remedy.
 OTHER_CLOCKS = [
@@ -273,6 +280,12 @@ PLACES = [
     ("time (Vienna)", "Vienna"), ("time..Vienna.", "Vienna"), ("Berlin", "Berlin"), ("Uhrzeit Wien", "Wien"), ("time (Los Angeles)", "Angeles"),
     ("Fecha (Santiago)", "Santiago"), ("time (Eisenstadt)", "Eisenstadt"), ("time (Österreich)", "Österreich"), ("time..Eisenstadt.", "Eisenstadt"),
     ("time [ Kaffeklubben ]", "Kaffeklubben"), ("(Eisenstadt)", "Eisenstadt"), ("time (IST)", "IST"), ("time (EAT)", "EAT"), ("date (solar)", "solar"),
+    *((title, title.split()[at]) for title, at in (
+        ("letní čas", 0), ("LETNÍ ČAS", 0), ("zimní čas", 0), ("letný čas", 0), ("poletni čas", 0), ("zimski čas", 0), ("ljetno vrijeme", 0), ("kesäaika", 0), ("KESÄAIKA", 0), ("talviaika", 0), ("zomertijd", 0),
+        ("Wintertijd", 0), ("sommertid", 0), ("Vintertid", 0), ("normaltid", 0), ("sommartid", 0), ("летнее время", 0), ("Зимнее время", 0), ("московское время", 0), ("czas letni", 1), ("czas zimowy", 1),
+        ("horário de verão", 2), ("HORÁRIO DE VERÃO", 2), ("hora de inverno", 2), ("ora solare", 1), ("ora estiva", 1), ("nyári idő", 0), ("téli idő", 0), ("středoevropský čas", 0),
+        ("srednjeevropski čas", 0), ("Suomen aika", 0), ("ora di Roma", 2))),
+    ("HEURE D'ÉTÉ", "ÉTÉ"),
 ]
 # Such titles, whose clock may be that of UTC.
 OF_LANDS = [("hora oficial", "oficial"), ("Official time", "Official"), ("ora legale", "legale"), ("heure légale", "légale"), ("civil time", "civil")]
@@ -291,7 +304,7 @@ LATITUDES = [
 ]
 # Titles of eastings that say the west or the south, and of northings.
 EASTINGS = [("Westing", "Westing"), ("westings (m)", "westings"), ("x_west", "west"), ("X (West)", "West"), ("Easting (West)", "West"), ("x ouest", "ouest"), ("Southing", "Southing")]
-NORTHINGS = [("Southing", "Southing"), ("y (south)", "south"), ("coord_y_south_m", "south"), ("Y süd", "süd"), ("westing", "westing")]
+NORTHINGS = [("Southing", "Southing"), ("y (south)", "south"), ("coord_y_south_m", "south"), ("Y süd", "süd"), ("westing", "westing"), ("south_northing", "south"), ("y (south grid)", "south")]
 # Titles of two coordinates that say no such side.
 NO_SIDES = [
     ("lon", "lon_wgs84", "lat_wgs84"), ("lon", "lon_s", "lat_s"), ("lon", "lon_W", "lat_W"), ("lon", "Lon (E/W)", "Lat (N/S)"), ("lon", "lon_deg", "lat_deg"),
