@@ -28,6 +28,26 @@ def columns(titles, box, rest=""):
     return f"columns: {titles}; 1 animals, box {box} km{rest}"
 
 
+# Places of six fixes: longitude and latitude, and easting and northing in zone 33 of UTM, in LAEA of Europe, in Krovak's system, and by
+# Mercator's projection for maps of browsers, as PROJ has them.
+PLACES = ("14.20000,46.30000", "14.25120,46.31210", "14.18330,46.28870", "14.23010,46.35540", "14.15260,46.33320", "14.21970,46.27110")
+UTM = [(438390, 5127691), (442346, 5128997), (437091, 5126449), (440768, 5133824), (434779, 5131418), (439875, 5124465)]
+LAEA = [(4644752, 2585464), (4648620, 2587030), (4643534, 2584139), (4646733, 2591739), (4640904, 2588941), (4646444, 2582345)]
+KROVAK = [(-817057, -1458071), (-812959, -1457283), (-818508, -1459139), (-813905, -1452285), (-820164, -1453904), (-815996, -1461468)]
+MERCATOR = [(1580737, 5828555), (1586436, 5830505), (1578878, 5826735), (1584087, 5837486), (1575460, 5833906), (1582930, 5823900)]
+
+
+def told(places, degrees=PLACES):
+    """A table of fixes at these places, beside longitude and latitude."""
+    rows = (f"a,{second},{east},{north},{beside}\n" for second, ((east, north), beside) in enumerate(zip(places, degrees)))
+    return f"id,second,x,y,lon,lat\n{''.join(rows)}".encode()
+
+
+def taken(places):
+    """The track of these places."""
+    return {"a": "".join(f"a,{second},{east},{north}\n" for second, (east, north) in enumerate(places))}
+
+
 OWN_COLUMNS = columns("animal, second, easting, northing", "0.030 by 0.040", ", from second 0 to 60")
 
 # Name, options, bytes of the table, and either the record and a part of the refusal, or the lines that are said but the last, and
@@ -138,6 +158,16 @@ REFUSED = [
        "column 5 'side' has S or W beside degrees above 0, and is not read: if they lie there, write them with a minus and remove it, and else write its values otherwise")
       for one, other in (("south", "north"), ("S.", "N."), ("SOUTH", "S"), ("Sud", "Nord"), ("Southern hemisphere", "northern hemisphere"), ("süd", "Norden"), ("sur", "sur"),
                          ("West", "East"), ("w.", "E"), ("Ouest", "Est"), ("oeste", "leste"), ("west longitude", "west longitude"), ("O", "E"))),
+    *((f"days beside {title} as {one}", [], f"id,date,x,y,{title}\na,2024-05-01,1000,2000,{one}\na,2024-05-01,1030,2040,{other}\n".encode(), None,
+       f"column 5 '{title}' has days with clocks, and the times that are read are days alone: name it as the time, as by --time '{title}', or remove it")
+      for title, one, other in (("gps_time", "2024-05-01 10:30:00", "2024-05-01 09:00:00"), ("Acquisition", "2024-05-01T10:30Z", "2024-05-01T00:00Z"), ("stamp", "1/5/24 3:30 PM", "1/5/24 12:00 AM"),
+                                ("fix", "01.05.2024 10:30", "01.05.2024 9:00"), ("UTC.Datum", "20240501 10:30:00", "20240501 11:30:00"))),
+    *((f"fixes that lie otherwise, {name}", options, told(places), None,
+       "column 3 'x' and column 4 'y' are read as metres, and fixes lie otherwise by column 5 'lon' and column 6 'lat': name these, by --lon and --lat, or write metres of one "
+       "zone or system, or remove those that are not theirs") for name, options, places in (
+           ("Mercator", [], MERCATOR), ("feet", [], [(round(east / 0.3048), round(north / 0.3048)) for east, north in UTM]), ("the other way round", [], [(north, east) for east, north in UTM]),
+           ("rows", [], [(row, row) for row in range(6)]), ("kilometres", ["--unit", "dm"], [(east / 1000, north / 1000) for east, north in UTM]),
+           ("two zones", [], [(east - 462000 * (place % 2), north) for place, (east, north) in enumerate(UTM)]))),
     ("halves of the day", [], b"id,time,x,y,half\na,2024-05-01 01:00,1000,2000,AM\na,2024-05-01 01:30,1030,2040,pm\n", None, "column 5 'half' has halves of the day"),
     *((f"halves of the day as {one!r} and {other!r} under {title}", [], f"id,time,x,y,{title}\na,2024-05-01 01:00,1000,2000,{one}\na,2024-05-01 01:30,1030,2040,{other}\n".encode(), None,
        f"column 5 '{title}' has halves of the day, and is not read: write them AM and PM and join it to the time") for title, one, other in (
@@ -312,6 +342,15 @@ READ = [
        {"a": "a,1714521600,562000,5134001\na,1714608000,562008,5134012\n"})
       for title, one, other in (("site", "South", "North"), ("population", "South", "South"), ("Aspect", "south", "South"), ("side", "South", "West"), ("hemisphere", "North", "N."),
                                 ("side", "O", "O"), ("side", "Ost", "east"), ("note", "South meadow", "South meadow"))),
+    *((f"a time beside days that is no fix's, {title} {one}", [], f"id,date,x,y,{title}\na,2024-05-01,1000,2000,{one}\na,2024-05-02,1030,2040,{other}\n".encode(),
+       [*LINES, columns("id, date, x, y", "0.030 by 0.040", ", from 2024-05-01 to 2024-05-02"), f"not read: {title}"], {"a": "a,1714521600,1000,2000\na,1714608000,1030,2040\n"})
+      for title, one, other in (("deploy_on_timestamp", "2024-04-01 10:30:00", "2024-04-02 10:30:00"), ("sunrise", "2024-05-01 05:48", "2024-05-02 05:46"), ("gps_time", "2024-05-01 00:00:00", "2024-05-02 00:00:00"),
+                                ("day2", "5/1/2024 12:00:00 AM", "5/2/2024 12:00:00 AM"), ("gps_time", "2024-05-01 10:30:00", "2024-05-01 10:30:00"), ("note", "2024-05-01 10:30", "none"))),
+    *((f"longitude and latitude beside metres, {name}", [], told(places, degrees), [*LINES, columns("id, second, x, y", box, ", from second 0 to 5"), "not read: lon, lat"], taken(places))
+      for name, places, degrees, box in (
+          ("UTM", UTM, PLACES, "7.567 by 9.359"), ("LAEA", LAEA, PLACES, "7.716 by 9.394"), ("Krovak", KROVAK, PLACES, "7.205 by 9.183"), ("without decimals", UTM, ["14,46"] * 6, "7.567 by 9.359"),
+          ("of one place", UTM, PLACES[:1] * 6, "7.567 by 9.359"), ("missing", UTM, ["NA,NA"] * 6, "7.567 by 9.359"),
+          ("of few decimals", [(438390 + east, 5127691 + east) for east in range(0, 60, 10)], ["14.20,46.30", "14.20,46.30", "14.21,46.30", "14.20,46.30", "14.21,46.30", "14.20,46.30"], "0.050 by 0.050"))),
     ("days with hours by their form", ["--time-format", "%Y%m%d%H"], b"id,timestamp,x,y\na,2024050112,1000,2000\na,2024050213,1030,2040\n",
      ["times are read as %Y%m%d%H, in UTC", *LINES, columns("id, timestamp, x, y", "0.030 by 0.040", ", from 2024-05-01 to 2024-05-02")],
      {"a": "a,1714564800,1000,2000\na,1714654800,1030,2040\n"}),
