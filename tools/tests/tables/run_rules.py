@@ -348,7 +348,7 @@ READ = [
                                 ("day2", "5/1/2024 12:00:00 AM", "5/2/2024 12:00:00 AM"), ("gps_time", "2024-05-01 10:30:00", "2024-05-01 10:30:00"), ("note", "2024-05-01 10:30", "none"))),
     *((f"longitude and latitude beside metres, {name}", [], told(places, degrees), [*LINES, columns("id, second, x, y", box, ", from second 0 to 5"), "not read: lon, lat"], taken(places))
       for name, places, degrees, box in (
-          ("UTM", UTM, PLACES, "7.567 by 9.359"), ("LAEA", LAEA, PLACES, "7.716 by 9.394"), ("Krovak", KROVAK, PLACES, "7.205 by 9.183"), ("without decimals", UTM, ["14,46"] * 6, "7.567 by 9.359"),
+          ("UTM", UTM, PLACES, "7.567 by 9.359"), ("LAEA", LAEA, PLACES, "7.716 by 9.394"), ("Krovak, without its signs", [(east + 1000000, north + 2000000) for east, north in KROVAK], PLACES, "7.205 by 9.183"), ("without decimals", UTM, ["14,46"] * 6, "7.567 by 9.359"),
           ("of one place", UTM, PLACES[:1] * 6, "7.567 by 9.359"), ("missing", UTM, ["NA,NA"] * 6, "7.567 by 9.359"),
           ("of few decimals", [(438390 + east, 5127691 + east) for east in range(0, 60, 10)], ["14.20,46.30", "14.20,46.30", "14.21,46.30", "14.20,46.30", "14.21,46.30", "14.20,46.30"], "0.050 by 0.050"))),
     ("days with hours by their form", ["--time-format", "%Y%m%d%H"], b"id,timestamp,x,y\na,2024050112,1000,2000\na,2024050213,1030,2040\n",
