@@ -42,7 +42,31 @@ impl<'a> Unread<'a> {
         }
         None
     }
+
+    // The first column of halves of the day.
+    fn halves(&self) -> Option<usize> {
+        for (column, texts) in self.columns.iter().zip(self.texts) {
+            if texts.are_there && texts.are_halves {
+                return Some(*column);
+            }
+        }
+        None
+    }
+
+    // A sign of a clock, as it stands beside the columns: that of hours is another one where one has halves of the day.
+    fn clock_sign<'s>(&self, sign: &'s str) -> &'s str {
+        if sign == HOURS && self.halves().is_some() {
+            HOURS_OF_HALVES
+        } else {
+            sign
+        }
+    }
 }
+
+// The sign of hours in a form, and that of hours before a half of the day.
+const HOURS: &str = "%H";
+
+const HOURS_OF_HALVES: &str = "%I";
 
 // Columns of a time that are joined: their titles between commas, and the signs of some between blanks.
 #[derive(Drop)]
@@ -86,11 +110,19 @@ impl Join {
     fn add_clock(&mut self, unread: Unread<'_>, from: usize) -> Result<(), AllocError> {
         for sign in CLOCK.iter().skip(from) {
             match unread.column_of(sign) {
-                Some(column) => self.add(unread.title(column), sign)?,
+                Some(column) => self.add(unread.title(column), unread.clock_sign(sign))?,
                 None => return Ok(()),
             }
         }
         Ok(())
+    }
+
+    // Appends the column of halves of the day, if there is one.
+    fn add_half(&mut self, unread: Unread<'_>) -> Result<(), AllocError> {
+        match unread.halves() {
+            Some(column) => self.add(unread.title(column), "%p"),
+            None => Ok(()),
+        }
     }
 
     // The words that join the columns, whose form begins with one of these.
@@ -174,10 +206,13 @@ pub(crate) fn join_words(
     for time in export.columns.time.iter() {
         join.add_title(unread.title(*time))?;
     }
-    join.add(unread.title(column), sign)?;
+    join.add(unread.title(column), unread.clock_sign(sign))?;
     let place = CLOCK.iter().position(|own| *own == sign);
     let behind = place.unwrap_or(CLOCK.len()).saturating_add(1);
     join.add_clock(unread, behind)?;
+    if sign == HOURS {
+        join.add_half(unread)?;
+    }
     join.words(alloc, forms_of(wish))
 }
 
@@ -218,6 +253,9 @@ fn whole_words(
         }
     }
     join.add_clock(unread, 0)?;
+    if unread.column_of(HOURS).is_some() {
+        join.add_half(unread)?;
+    }
     let joined = join.words(alloc, "")?;
     format!(in alloc;
         "no column has a usual title for the time, and columns have its parts: {joined}, or leave them out"
