@@ -7,7 +7,7 @@ use crate::beside::refuse_beside;
 use crate::joined::{Unread, join_words, joined_titles, own_title, refuse_parts};
 use crate::minutes::refuse_minutes;
 use crate::summers::refuse_summers;
-use crate::systems::refuse_systems;
+use crate::systems::{CODE_WORDS, ZONE_WORDS, refuse_systems};
 use crate::units::refuse_units;
 use crate::wish::Wish;
 use range_plane::Scale;
@@ -134,26 +134,6 @@ const OFFSET_WORDS: [&str; 27] = [
 // The title that Movebank has for the zone of `study-local-timestamp`, beside times of UTC.
 const OF_LOCAL_TIMES: &[u8] = b"study-timezone";
 
-// Words of titles of zones of a grid, and of reference systems.
-const GRID_WORDS: [&str; 14] = [
-    "zone",
-    "zones",
-    "zona",
-    "zonas",
-    "zonen",
-    "huso",
-    "fuso",
-    "fuseau",
-    "utm",
-    "utmz",
-    "utmzone",
-    "zonenumber",
-    "zoneletter",
-    "mgrs",
-];
-
-const SYSTEM_WORDS: [&str; 4] = ["epsg", "srid", "crs", "srs"];
-
 // Titles of the zone of times and of zones of a grid.
 const OFFSETS: [&[u8]; 8] = [
     b"utc-offset",
@@ -221,7 +201,7 @@ fn is_one_of(title: &[u8], titles: &[&[u8]]) -> bool {
 
 // Whether the words of a title are those of the zone of times.
 fn is_of_clock(title: &[u8]) -> bool {
-    let is_zone_of_time = has_word(title, &GRID_WORDS) && has_word(title, &TIME_WORDS);
+    let is_zone_of_time = has_word(title, &ZONE_WORDS) && has_word(title, &TIME_WORDS);
     has_word(title, &CLOCK_WORDS) || is_zone_of_time
 }
 
@@ -240,8 +220,8 @@ fn has_offsets(title: &[u8], texts: &Texts) -> bool {
 
 // Whether a column of this title and with such texts has several zones of a grid.
 fn has_grid_zones(title: &[u8], texts: &Texts) -> bool {
-    let has_zones = texts.are_grid_zones && has_word(title, &GRID_WORDS) && !is_of_clock(title);
-    texts.are_several && (is_one_of(title, &ZONES) || has_word(title, &SYSTEM_WORDS) || has_zones)
+    let has_zones = texts.are_grid_zones && has_word(title, &ZONE_WORDS) && !is_of_clock(title);
+    texts.are_several && (is_one_of(title, &ZONES) || has_word(title, &CODE_WORDS) || has_zones)
 }
 
 // Whether a column of this title and with such texts has times of fixes, with a clock.

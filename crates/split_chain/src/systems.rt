@@ -12,8 +12,8 @@ use split_refusal::Refusal;
 use split_titles::has_word;
 use std::alloc::{AllocError, Global};
 
-// Words of titles of codes of reference systems, of these systems, and of zones of UTM.
-const CODE_WORDS: [&str; 4] = ["epsg", "srid", "crs", "srs"];
+// Words of titles of codes of reference systems, of these systems, and of zones of a grid.
+pub(crate) const CODE_WORDS: [&str; 4] = ["epsg", "srid", "crs", "srs"];
 
 const SYSTEM_WORDS: [&str; 8] = [
     "proj",
@@ -26,7 +26,22 @@ const SYSTEM_WORDS: [&str; 8] = [
     "sref",
 ];
 
-const ZONE_WORDS: [&str; 7] = ["zone", "zona", "huso", "fuso", "fuseau", "utm", "utmzone"];
+pub(crate) const ZONE_WORDS: [&str; 14] = [
+    "zone",
+    "zones",
+    "zona",
+    "zonas",
+    "zonen",
+    "huso",
+    "fuso",
+    "fuseau",
+    "utm",
+    "utmz",
+    "utmzone",
+    "zonenumber",
+    "zoneletter",
+    "mgrs",
+];
 
 // How the name of a zone may begin.
 const UTM: &[u8] = b"utm";
