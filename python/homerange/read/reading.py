@@ -29,6 +29,7 @@ from .cells import cells_of
 from .changes import (
     PLACES, are_rows_of_table, checksum_of_rows, has_labels, judged_rows, left_since, own_titles, refuse_changed, refuse_unread,
     refuse_unread_rows, seen, with_named_levels)
+from .clocks import refuse_other_clocks
 from .fixes import Fixes, Reading, clock_of, is_known, is_of_classes, reading_of
 from .helps import with_help
 from .refusals import COLUMNS, check_cells, columns_read, refuse_text
@@ -303,6 +304,7 @@ def read_text(text: Text, folder: Path, program: str, has_rows: bool) -> ReadTab
     record = read_record(folder / "tracks" / "split.txt")
     whole = read_tracks(folder / "tracks", record)
     check_cells(text, record)
+    refuse_other_clocks(text, columns_read(text, record), folder, program)
     narrow, rows = narrow_places(text.columns, record, COLUMNS), rows_of(folder / "tracks", whole) if has_rows else None
     if narrow and rows is None:
         split_table(NAME, "rows", ["--records", *words_of_options(text.options)], program, str(folder))

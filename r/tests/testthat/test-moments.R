@@ -67,3 +67,28 @@ test_that("groups may be moments of any class, and what has labels is said to ha
   labelled <- structure(rep_len(1:2, nrow(fixes)), labels = c(den = 1L, open = 2L), class = c("haven_labelled", "vctrs_vctr", "integer"))
   expect_error(home_range(fixes, by = labelled, quiet = TRUE), "as by haven::as_factor", class = "homerange_option_error")
 })
+
+test_that("moments labelled UTC whose title says another clock are refused", {
+  skip_without_split()
+  clock <- as.POSIXct("2024-05-01 08:00", tz = "UTC") + 3600 * 0:3
+  words <- c(local_time = "local", time_cet = "cet", Ortszeit = "Ortszeit", "Zeit (MEZ)" = "MEZ")
+  in_zone("UTC")
+  for (title in names(words)) {
+    table <- data.frame(animal = "a", time = clock, easting = 500000 + 1:4, northing = 5e6 + c(1, 5, 2, 9))
+    names(table)[2] <- title
+    said <- paste0("'", title, "' says ", words[[title]], ", and its moments are labelled UTC: if they are, name tz = \"UTC\", and else give them ",
+                   "the zone of their clock, as by as.POSIXct(format(x[[\"", title, "\"]]), tz = \"Europe/Ljubljana\")")
+    for (own in list(clock, as.POSIXlt(clock), `attr<-`(clock, "tzone", NULL), `attr<-`(clock, "tzone", "GMT"))) {
+      table[[title]] <- own
+      for (given in list(list(), list(tz = "Europe/Vienna"), list(time = title), list(time = title, tz = "Europe/Vienna"))) {
+        expect_error(quietly(do.call(read_fixes, c(list(table), given))), said, fixed = TRUE, class = "homerange_columns_error")
+      }
+      expect_identical(as.numeric(quietly(read_fixes(table, tz = "UTC"))$time), as.numeric(clock))
+    }
+    table[[title]] <- as.POSIXct(format(table[[title]]), tz = "Europe/Ljubljana")
+    expect_identical(as.numeric(quietly(read_fixes(table))$time), as.numeric(clock) - 7200)
+    names(table)[2] <- "time_utc"
+    table$time_utc <- clock
+    for (tz in list(NULL, "Europe/Vienna")) expect_identical(as.numeric(quietly(read_fixes(table, tz = tz))$time), as.numeric(clock))
+  }
+})
