@@ -155,7 +155,7 @@ def test_shapes_of_a_plain_frame_are_no_points_yet():
 def test_planes_in_feet_say_what_helps():
     pytest.importorskip("pyproj")
     axes = 'CS[Cartesian,2],AXIS["easting",east],AXIS["northing",north],LENGTHUNIT["foot",0.3048]'
-    with pytest.raises(FrameError, match="^the CRS local is in foot and not in metres: make metres of its coordinates, which need no CRS$"):
+    with pytest.raises(FrameError, match="^crs: the CRS local is in foot and not in metres: make metres of its coordinates, which need no CRS$"):
         home_range(frame_of(a=SQUARE), crs=f'ENGCRS["local",EDATUM["x"],{axes}]')
     with pytest.raises(FrameError, match="and not in metres: make points of its columns and project these first, as by geopandas.points_"):
         home_range(frame_of(a=SQUARE), crs="EPSG:2263")

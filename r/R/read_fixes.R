@@ -61,7 +61,9 @@ read_file <- function(path, given, folder) {
     record <- if (!is.null(refusal$record)) sprintf("record %.0f: ", refusal$record)
     refuse(refusal$kind, file, record, text, record = refusal$record)
   }
-  fixes_of_tracks(into, if (is.null(given$tz)) "UTC" else given$tz, places$crs, read_record(file.path(into, "split.txt"))$said)
+  said <- read_record(file.path(into, "split.txt"))$said
+  check_turned_sides(places$crs, said, given)
+  fixes_of_tracks(into, if (is.null(given$tz)) "UTC" else given$tz, places$crs, said)
 }
 
 # The fixes of tracks, and what is to be said of them: by the clock of a zone, in a reference system that is known otherwise than
@@ -70,10 +72,10 @@ fixes_of_tracks <- function(into, tz, crs, said, further = function(record, fixe
   record <- read_record(file.path(into, "split.txt"))
   if (!is.null(crs) && !is.null(record$zone)) {
     if (any(startsWith(record$said, "longitude and latitude are projected into zone "))) {
-      refuse("zone", "longitude and latitude are read, which are projected into the zone ", record$zone, ", and crs is the reference system of ",
-             "easting and northing: leave crs out, or name these by easting and northing")
+      refuse_crs("longitude and latitude are read, which are projected into the zone ", record$zone, ", and crs is the reference system of ",
+                 "easting and northing: leave crs out, or name these by easting and northing", kind = "zone")
     }
-    refuse("zone", "the coordinates are of the zone ", record$zone, ", and the CRS ", crs$Name, " is none of UTM: give one of the two")
+    refuse_crs("the coordinates are of the zone ", record$zone, ", and the CRS ", crs$Name, " is none of UTM: give one of the two", kind = "zone")
   }
   fixes <- read_tracks(into, record)
   table <- table_of_fixes(fixes, record, tz, further(record, fixes))

@@ -29,6 +29,7 @@ read_frame <- function(x, given, folder, has_rows) {
   rows <- NULL
   sources <- titles_read(frame$x, said)
   check_text_form(frame, sources)
+  check_turned_sides(frame$places$crs, said, given)
   refuse_other_clocks(frame, intersect(sources, frame$moments), folder)
   said <- c(groups_of_dplyr(x, titles_of_animals(frame, said)), frame$places$line, frame$clock$line, of_frame(said, x))
   read <- fixes_of_tracks(into, c(given$tz, frame$clock$tz, "UTC")[1], frame$places$crs, said, function(record, fixes) {

@@ -33,7 +33,7 @@ from .clocks import refuse_other_clocks
 from .fixes import Fixes, Reading, clock_of, is_known, is_of_classes, reading_of
 from .helps import with_help
 from .refusals import COLUMNS, check_cells, columns_read, refuse_text
-from .systems import are_degrees, crs_named, options_of, refuse_beside_zone, scales_said
+from .systems import are_degrees, check_sides, crs_named, options_of, refuse_beside_zone, scales_said
 from .text import (
     NAME, Text, frame_given, has_times, in_own_words, plain, text_of_frame, with_clock_of, with_time_named, write_text, zones_in)
 from .tracks import NAMED, Whole, left_out, own_names, read_tracks, rows_of
@@ -268,6 +268,7 @@ def read_file(path: Path, options: Mapping[str, Any], folder: Path, program: str
         text = text if fault.record is None else f"record {fault.record}: {text}"
         raise FrameError(text if text.startswith(shown) else f"{shown}: {text}", fault.kind, fault.record) from None
     record = read_record(folder / "tracks" / "split.txt")
+    check_sides(crs, record.said, options)
     whole = read_tracks(folder / "tracks", record)
     fixes = fixes_of(whole, record, folder, options.get("tz"), crs, [])
     return ReadTable(fixes, reading_of(fixes).notes)
@@ -304,6 +305,7 @@ def read_text(text: Text, folder: Path, program: str, has_rows: bool) -> ReadTab
     record = read_record(folder / "tracks" / "split.txt")
     whole = read_tracks(folder / "tracks", record)
     check_cells(text, record)
+    check_sides(text.crs, record.said, text.options)
     refuse_other_clocks(text, columns_read(text, record), folder, program)
     narrow, rows = narrow_places(text.columns, record, COLUMNS), rows_of(folder / "tracks", whole) if has_rows else None
     if narrow and rows is None:
