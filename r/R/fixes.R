@@ -289,7 +289,7 @@ st_as_sf.homerange_fixes <- function(x, ...) {
   sides <- list2DF(sapply(c("easting", "northing"), function(title) numbers_of(x[[title]], title), simplify = FALSE))
   sides[!stats::complete.cases(sides), ] <- NA_real_
   places <- if (nrow(x)) sf::st_geometry(sf::st_as_sf(sides, coords = names(sides), crs = crs, na.fail = FALSE)) else sf::st_sfc(crs = crs)
-  structure(sf::st_sf(as.data.frame.homerange_fixes(x), geometry = places), homerange = facts_of(x))
+  with_points(sf::st_sf(as.data.frame.homerange_fixes(x), geometry = places), x)
 }
 
 # Refuses fixes whose places are no numbers, or not there once, as they are refused that are read again.

@@ -27,11 +27,23 @@ read_table <- function(x, options, quiet, folder, has_rows = TRUE, used = NULL) 
     if (!nzchar(x)) refuse("option", argument_text("x", x), " is no path")
     read_file(x, given, folder)
   } else {
-    read_frame(x, given, folder, has_rows)
+    with_left_before(read_frame(x, given, folder, has_rows), x, given$animal)
   }
   session <- if (is_of_session(options)) paste0("days and hours are those of ", given$tz, ", the zone of the session")
   read$said <- c(session, groups, read$said)
   if (!quiet) for (line in read$said) tell_note(line, kind_of_said(line))
+  read
+}
+
+# What was read of points of fixes that lie elsewhere now, with what was left out of these before, of no animal where these have others.
+with_left_before <- function(read, x, animal) {
+  if (is.null(facts_of(x)) || !has_columns(x)) return(read)
+  since <- left_since(fixes_of_points(x))
+  facts <- facts_of(read$fixes)
+  if (!identical(c(animal, "animal")[1], "animal")) since <- list(left = replace(since$left, "animal", ""), unknown = names(facts$fixes))
+  facts$left_out <- summed_left(rbind(since$left, facts$left_out))
+  facts$unknown <- since$unknown
+  attr(read$fixes, "homerange") <- facts
   read
 }
 
