@@ -25,7 +25,7 @@ from ..record import Record, difference_from_record, read_record
 from ..report import Corners, Percent, Report, Table, doubled_area, read as read_lines
 from ..units import UNITS, zone_of_time, zone_text
 from ..zones import text_of_crs
-from .groups import Group, check_by, group_tracks, is_period, labels_of, questions_of
+from .groups import Group, check_by, group_tracks, is_period, labels_of, questions_of, said_of_period
 from .growth import share
 from .outer import counts_within, polygon_kept
 from .overview import Facts, Row, facts_of, reasons_of, rows_of
@@ -441,7 +441,7 @@ def home_range(
         tracks, groups = tracks_of_fixes(table.fixes), dict[str, Group]()
         if by is not None:
             labels = labels_of(table, by)
-            questions = [] if is_period(by) else questions_of(labels, Path(folder), program)
+            questions = said_of_period(table.fixes, by) if is_period(by) else questions_of(labels, Path(folder), program)
             tracks, groups = group_tracks(tracks, labels, questions)
         own, files = reading_of(table.fixes), Path(folder) / "tracks"
         tell([*table.said, *tracks.notes[len(own.notes):]])
