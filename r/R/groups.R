@@ -62,7 +62,10 @@ labels_of <- function(fixes, by, frame = NULL, is_file = FALSE) {
   if (is_text(by) && !length(own) && by %in% names(fixes)) {
     by <- fixes[[by]]
   } else if (is.function(by)) {
-    by <- by(fixes)
+    by <- tryCatch(by(fixes), error = function(fault) {
+      refuse("option", "by: the function of the fixes has failed: ", one_line(conditionMessage(fault)), ": a title, or a period such as \"month\", ",
+             "stands in quotes")
+    })
   } else {
     if (length(own)) by <- own[[1]] else check_titles(by, fixes)
     if (!is.null(frame)) return(check_labels(text_of_groups(values_of(by, frame$number, "rows"))[frame$rows], frame$rows))

@@ -19,6 +19,7 @@ import pandas
 from numpy.typing import NDArray
 from pandas.core.groupby import DataFrameGroupBy
 
+from ..arguments import says_ours
 from ..errors import FrameError, HomeRangeInfo, HomeRangeNote, check_no_pipe, one_line, path_of, refuse
 from ..program import PACKAGE, find_split_program
 from ..record import Record, read_record
@@ -81,6 +82,7 @@ def calls_within(frame: FrameType | None) -> int:
     return calls
 
 
+@says_ours
 def read_fixes(x: Any, *, program: str | os.PathLike[str] | None = None, **options: Any) -> Fixes:
     """The fixes of a table, as a data frame of pandas for ``home_range``, which knows how it was read.
 
