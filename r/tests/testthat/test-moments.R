@@ -92,3 +92,22 @@ test_that("moments labelled UTC whose title says another clock are refused", {
     for (tz in list(NULL, "Europe/Vienna")) expect_identical(as.numeric(quietly(read_fixes(table, tz = tz))$time), as.numeric(clock))
   }
 })
+
+test_that("fixes that write.csv writes are read as they were", {
+  skip_without_split()
+  times <- as.POSIXct("2024-03-30 22:00", tz = "UTC") + 86400 * 0:3  # clocks are moved on the second day
+  for (zone in c("UTC", "Europe/Vienna", "America/St_Johns", "Asia/Kathmandu")) {
+    table <- data.frame(animal = "a", time = times, easting = c(500000, 500100, 600000, 500001), northing = 5300000 + c(0, 1, 5, 2))
+    fixes <- quietly(read_fixes(table, tz = zone, zone = "33N"))
+    path <- file.path(local_folder(), "fixes.csv")
+    utils::write.csv(fixes, path, row.names = FALSE)
+    for (own in list(path, utils::read.csv(path))) {
+      again <- quietly(read_fixes(own, tz = zone, zone = "33N"))
+      expect_identical(as.data.frame(again), as.data.frame(fixes))
+    }
+    expect_identical(class(fixes$time), c("POSIXct", "POSIXt"))
+  }
+  changed <- fixes
+  changed[1, "easting"] <- 500002
+  expect_identical(quietly(read_fixes(changed))$easting, c(500002, 500100, 600000, 500001))
+})
