@@ -59,9 +59,13 @@ line_of_lost <- function(x) {
   paste0("fixes without their column '", lost, "' are read as a data frame, whose zone is not known unless it is named")
 }
 
+# What reads files of other forms, by how their names end.
+readers <- c("[.]rds$" = "readRDS", "[.](geojson|json|shp)$" = "sf::st_read", "[.]parquet$" = "arrow::read_parquet", "[.]feather$" = "arrow::read_feather")
+
 # The fixes of a file of text.
 read_file <- function(path, given, folder) {
-  if (grepl("[.]rds$", in_small(readable(path)))) refuse("text", path, " is a file of R: read what it has, as by read_fixes(readRDS(..))")
+  reader <- readers[vapply(names(readers), grepl, NA, in_small(readable(path)))]
+  if (length(reader)) refuse("text", path, " is no text with a line of titles: read what it has, as by read_fixes(", reader[1], "(..))")
   places <- places_of_columns(NULL, given, TRUE)
   full <- path_for_program(path, folder)
   into <- file.path(folder, "tracks")

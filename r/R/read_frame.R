@@ -90,7 +90,9 @@ help_for_table <- function(x) {
     return(paste0("bind those that are in it, as by do.call(rbind, unname(x))", if (!is.null(names(x)))
       ", or where its names are those of the animals by do.call(rbind, Map(cbind, animal = names(x), unname(x)))"))
   }
-  paste("make it one, as by", if (inherits(x, "Spatial")) "sf::st_as_sf(x)" else if (is.matrix(x)) "as.data.frame(x)" else "data.frame(..)")
+  if (inherits(x, "zoo")) return("make it one, as by data.frame(time = zoo::index(x), zoo::coredata(x))")
+  if (inherits(x, "sfc")) return("make it one, as by sf::st_sf(animal = .., time = .., geometry = x)")
+  paste("make it one, as by", if (inherits(x, c("Spatial", "SpatVector"))) "sf::st_as_sf(x)" else if (is.matrix(x)) "as.data.frame(x)" else "data.frame(..)")
 }
 
 # The options of a table that says itself which columns have the animal and the time: of move2, or points of fixes that were moved.

@@ -52,6 +52,8 @@ TAKEN = (READ, "UTM coordinates are", "coordinates are those", "longitude and la
 # Options that want columns of fixes beside their own.
 OF_COLUMNS = {"animal", "time", "easting", "northing", "lon", "lat", "argos", "argos_class", "dop", "max_dop", "fix", "fix_type", "sensor"}
 OWN = ("animal", "time", "second", *PLACES)  # titles that fixes have
+READERS = {(".geojson", ".json", ".shp"): "geopandas.read_file", (".parquet",): "pandas.read_parquet", (".feather",): "pandas.read_feather",
+           (".pickle", ".pkl"): "pandas.read_pickle"}  # what reads files of other forms, by how their names end
 OFFSET = re.compile("(Z|[+-][0-9]{2}:?[0-9]{2})$")  # of a text of a time
 RECORDS = re.compile(r"(?<=: )records ([0-9]+(?:, [0-9]+)*)(?=,? ?[.:]|$)")  # in what is said
 
@@ -259,8 +261,16 @@ def refuse_system(before: Reading, wishes: Mapping[str, Any]) -> None:
                "the table anew by read_fixes", name)
 
 
+def refuse_form(path: Path) -> None:
+    """Refuses a file of another form than text with titles, by its name, with what reads it."""
+    reader = next((reader for forms, reader in READERS.items() if path.suffix.lower() in forms), None)
+    if reader is not None and path.is_file():
+        refuse(f"{path} is no text with a line of titles: read what it has, as by read_fixes({reader}(..))", "text")
+
+
 def read_file(path: Path, options: Mapping[str, Any], folder: Path, program: str) -> ReadTable:
     """The fixes of a file."""
+    refuse_form(path)
     crs = None if options.get("crs") is None else crs_named(options["crs"])
     found = {**options, "crs": None, **options_of(crs, options.get("zone"))}
     try:
@@ -313,7 +323,7 @@ def read_text(text: Text, folder: Path, program: str, has_rows: bool) -> ReadTab
     if narrow and rows is None:
         split_table(NAME, "rows", ["--records", *words_of_options(text.options)], program, str(folder))
         rows = rows_of(folder / "rows", whole)
-    notes = [*text.notes, *(text.clock or ()), *(() if rows is None else steps_said(narrow, rows, record.unit))]
+    notes = [*text.notes, *(text.clock or ()), *(() if rows is None else steps_said(narrow, rows, record))]
     fixes = fixes_of(whole, record, folder, text.options.get("tz"), text.crs, notes, lambda line: said_of(line, text))
     titles, sources = (frozenset(in_own_words(column.title, text) for column in several)
                        for several in (text.columns, columns_read(text, record)))
