@@ -217,10 +217,27 @@ def test_arguments_of_other_tools_are_named_as_they_are_here(ranges, tmp_path, c
 
 def test_other_arguments_are_refused_by_their_names(ranges):
     for call in (plot_ranges, plot_curve, write_page, write_layers, share_inside, HomeRanges.overlap):
-        with pytest.raises(TypeError, match="unexpected keyword argument 'nothing'"):
+        with pytest.raises(FrameError, match="^there is no argument nothing$"):
             call(ranges, nothing=1)
     with pytest.raises(FrameError, match="^there is no argument title: the axes that are answered have it, as by .set_title\\(..\\)$"):
         plot_ranges(ranges, title="x")
+
+
+def test_missing_arguments_and_such_that_are_too_many_are_refused(ranges, tmp_path):
+    lost = {"x": (home_range, read_fixes), "ranges": (plot_ranges, plot_curve, write_page, write_layers, share_inside), "path": (read_report,)}
+    for name, calls in lost.items():
+        for call in calls:
+            with pytest.raises(FrameError, match=f"^{name} is missing: .* wanted"):
+                call()
+    for name, calls in {"path": (write_page, write_layers), "reserve": (share_inside,), "folder": (HomeRanges.evidence,), "animal": (HomeRanges.hectares,)}.items():
+        for call in calls:
+            with pytest.raises(FrameError, match=f"^{name} is missing: .* wanted$"):
+                call(ranges)
+    for call in (HomeRanges.summary, HomeRanges.curve, HomeRanges.growth, HomeRanges.left_out, HomeRanges.overview):
+        with pytest.raises(FrameError, match="^there is an argument too many$"):
+            call(ranges, 1)
+    with pytest.raises(FrameError, match="^there is an argument too many: path is there twice$"):
+        write_page(ranges, tmp_path / "a.html", path="b")
 
 
 def test_warnings_are_of_the_line_that_called_the_package(ranges):

@@ -53,7 +53,7 @@ def stub(tmp_path, monkeypatch):
     ({"every": 1.0001}, "every=1.0001 is no whole number of seconds"),
     ({"every": clock.timedelta(seconds=2.5)}, "is no whole number of seconds: write such as '90min' or '5s'"),
     ({"since": 20240401}, "since=20240401 is neither a text such as '2024-05-01' nor a date"),
-    ({"until": pandas.NaT}, "until=NaT is neither"), ({"until": numpy.datetime64("NaT")}, "is neither"), ({"since": 1.5}, "is neither"),
+    ({"until": pandas.NaT}, "until is missing, and a moment is wanted"), ({"until": numpy.datetime64("NaT")}, "until is missing"), ({"since": 1.5}, "is neither"),
     ({"max_dop": numpy.True_}, "max_dop is .*True_? and"), ({"skip_lines": numpy.int64(-1)}, "skip_lines is .* and not a number from 0"),
     ({"lon": "a\0b"}, "lon is 'a.x00b', which the program cannot be told, since it has a byte 0$"),
     ({"lon": "a\udce4"}, "which the program cannot be told, since it is no text in UTF-8$"),

@@ -186,11 +186,13 @@ def test_what_is_no_name(splitter, value, said):
 @pytest.mark.parametrize("title", ["timestamp_utc", "time_local", "UTC_datetime", "local time"])
 @pytest.mark.parametrize("tz", [None, "Asia/Tokyo"])
 def test_moments_are_the_time_whatever_their_title_says(splitter, title, tz):
+    zone = "Africa/Nairobi" if "local" in title else "UTC"
     frame = frame_of(a=SQUARE).rename(columns={"timestamp": title}).assign(note="x")
+    frame[title] = frame[title].dt.tz_convert(zone)
     for options in ({}, {"time": title}):
         with told(f"^columns: animal, {title}, easting, northing; 1 animals"):
             fixes = read_fixes(frame, tz=tz, **options)
-        assert fixes["time"].tolist() == frame[title].tolist() and str(fixes["time"].dt.tz) == (tz or "UTC")
+        assert fixes["time"].tolist() == frame[title].tolist() and str(fixes["time"].dt.tz) == (tz or zone)
         assert fixes[title].tolist() == frame[title].tolist() and "datetime" not in fixes
     with pytest.raises(FrameError, match=rf"^row 3: there is no {title}: leave rows without one out, as by frame\[frame\['{title}'\][.]notna\(\)\]$"):
         read_fixes(frame.assign(**{title: frame[title].where(frame.index < 3)}), tz=tz, time=title)
@@ -369,7 +371,7 @@ def test_wrong_systems_are_refused_or_said(splitter):
     with pytest.raises(FrameError, match="the coordinates are of the zone 33N, and the CRS .* none of UTM: give one of the two"):
         read_fixes(utm, crs="EPSG:3035")
     degrees = frame.assign(easting=15.8, northing=46.3).rename(columns={"easting": "lon", "northing": "lat"})
-    with pytest.raises(FrameError, match="^longitude and latitude are read, which are projected into the zone 33N, .*: leave crs out") as fault:
+    with pytest.raises(FrameError, match="^crs: longitude and latitude are read, which are projected into the zone 33N, .*: leave crs out") as fault:
         read_fixes(degrees, crs="EPSG:3035")
     assert fault.value.kind == "zone"
 

@@ -121,7 +121,7 @@ def test_a_crs_is_of_metres_that_have_a_way_to_degrees(splitter, crs, said):
         if said is None:
             assert call()["easting"].tolist() == table["easting"].tolist()
         else:
-            with pytest.raises(FrameError, match=f"^{said}"):
+            with pytest.raises(FrameError, match=f"^crs: {said}"):
                 call()
 
 

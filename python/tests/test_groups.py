@@ -2,6 +2,7 @@
 what is shown of long work."""
 import io
 import os
+import re
 import warnings
 
 import numpy
@@ -372,3 +373,20 @@ def test_series_that_are_counted_from_zero_go_by_no_guess():
     for by in (night(fixes), night(table)):
         with pytest.raises(FrameError, match="^by: it is not known which of the fixes each value is of"):
             home_range(fixes, by=by)
+
+
+@pytest.mark.parametrize("by", ["season", "month", "year"])
+def test_a_period_that_a_file_has_as_a_column_is_said_to_be_of_the_calendar(splitter, tmp_path, by):
+    frame = frame_of(a=[(0, 0), (200, 0), (200, 200), (0, 200)])
+    frame.assign(**{by: "rut"}).to_csv(tmp_path / "own.csv", index=False)
+    frame.assign(note="rut").to_csv(tmp_path / "other.csv", index=False)
+    said = (f"ranges are by the {by} of the calendar, and not by the column '{by}' of the file, which is not kept: read the file before to "
+            "take that")
+    wanted = {"season": "2024 Mar-May", "month": "2024-03", "year": "2024"}[by]
+    for table in (tmp_path / "own.csv", read_fixes(tmp_path / "own.csv")):
+        with pytest.warns(HomeRangeNote, match=f"^{re.escape(said)}$"):
+            ranges = home_range(table, 100, by=by)
+        assert ranges.summary()["group"].tolist() == [wanted]
+    home_range(tmp_path / "other.csv", 100, by=by)  # a note would be a fault
+    with pytest.raises(FrameError, match=f"^by='{by}' is a period of the calendar, and a column too"):
+        home_range(frame.assign(**{by: "rut"}), 100, by=by)

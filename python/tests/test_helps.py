@@ -231,3 +231,25 @@ def test_groups_in_a_list():
                      ([frame["sex"], frame["sex"]], "by is a list of 2 columns, and one is wanted: join them, as by by[0].astype(str) + ' ' + by[1].astype(str)")):
         with pytest.raises(FrameError, match=f"^{re.escape(said)}$"):
             home_range(frame, by=by)
+
+
+@pytest.mark.parametrize("name, reader", [
+    ("a.geojson", "geopandas.read_file"), ("a.JSON", "geopandas.read_file"), ("a.shp", "geopandas.read_file"), ("a.parquet", "pandas.read_parquet"),
+    ("a.feather", "pandas.read_feather"), ("a.pkl", "pandas.read_pickle")])
+def test_files_of_other_forms_are_refused_with_what_reads_them(tmp_path, name, reader):
+    (tmp_path / name).write_text('{"type": "FeatureCollection", "features": []}')
+    with pytest.raises(FrameError) as fault:
+        read_fixes(tmp_path / name)
+    assert str(fault.value) == f"{tmp_path / name} is no text with a line of titles: read what it has, as by read_fixes({reader}(..))"
+    assert fault.value.kind == "text"
+
+
+def test_values_in_place_of_a_title_and_several_moments_in_place_of_one():
+    frame = pandas.DataFrame({"animal": "a", "time": pandas.date_range("2024-05-01", periods=3, tz="UTC"), "easting": [1, 2, 3], "northing": [1, 5, 3]})
+    for own in (frame["time"], frame["time"].to_numpy(), frame.index, pandas.Timestamp("2024-05-01")):
+        with pytest.raises(FrameError, match="^time has values, and the title of their column is wanted, in quotes, as by time='COLUMN'$"):
+            read_fixes(frame, time=own)
+    with pytest.raises(FrameError, match="^since has 3 values, and one moment is wanted, such as '2024-05-01'$"):
+        read_fixes(frame, since=frame["time"])
+    with pytest.raises(FrameError, match="^until is missing, and a moment is wanted: leave until out where none is meant$"):
+        read_fixes(frame, until=pandas.NaT)

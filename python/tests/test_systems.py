@@ -40,7 +40,7 @@ def refusals_of(points, crs):
 def test_axes_that_go_west_or_south_are_refused(crs, place, name, ways):
     degrees = degrees_at(*place)
     points = degrees.to_crs(crs)
-    said = f"the axes of the CRS {name} go {ways[0]} and {ways[1]}, and not east and north: "
+    said = f"crs: the axes of the CRS {name} go {ways[0]} and {ways[1]}, and not east and north: "
     columns = f"make points of its columns and project these first, as by geopandas.points_from_xy({ways[0]}ings, {ways[1]}ings, crs=..) and to_crs"
     assert [*refusals_of(points, crs)] == [("crs", f"{said}project it first, as by frame.to_crs(frame.estimate_utm_crs())"), ("crs", f"{said}{columns}")]
     # What is said to help gives the ranges of the same places in degrees.
@@ -57,7 +57,7 @@ def test_axes_of_a_site_that_go_west_are_refused():
     for way in ("north", "south"):
         turned = points.set_crs(site.format(way), allow_override=True)
         assert {*refusals_of(turned, site.format(way))} == {
-            ("crs", f"the axes of the CRS plant go west and {way}, and not east and north: make eastings and northings of its coordinates, which "
+            ("crs", f"crs: the axes of the CRS plant go west and {way}, and not east and north: make eastings and northings of its coordinates, which "
                     "need no CRS")}
 
 
@@ -95,7 +95,7 @@ def test_areas_and_lengths_are_told_as_geodesics_have_them(crs, place):
     wanted = [f"areas of lynx are {abs(areas):.2f} % too {'great' if areas > 0 else 'small'} on this grid"] if abs(areas) > 0.1 else []
     wanted += [f"lengths of lynx differ by up to {lengths:.2f} % by direction on this grid"] if lengths > 1 else []
     if lengths > 10:
-        refusal = ("scale", f"{wanted[-1]}: take a zone or a reference system of the place")
+        refusal = ("scale", f"crs: {wanted[-1]}: take a zone or a reference system of the place")
         assert [*refusals_of(points, crs)] == [refusal, refusal]
     else:
         for fixes in (quietly(read_fixes, points), quietly(read_fixes, columns_of(points), crs=crs)):
@@ -106,3 +106,47 @@ def test_lengths_of_the_animal_where_they_differ_most_are_told():
     both = pandas.concat([degrees_at(10, 52), degrees_at(-6.4, 37).assign(animal="boar"), degrees_at(-4, 57).assign(animal="hare")]).to_crs(3035)
     notes = quietly(read_fixes, both).reading.notes
     assert [note.split(" differ")[0] for note in notes if note.endswith("on this grid")] == ["lengths of boar"]
+
+
+def arc_to(latitude):
+    """Metres from the equator to a latitude on GRS80, by the integral of the radius of the meridian."""
+    square = 0.0066943800229
+    middles = (numpy.arange(200_000) + 0.5) * numpy.radians(latitude) / 200_000
+    return float((6378137 * (1 - square) / (1 - square * numpy.sin(middles) ** 2) ** 1.5).sum() * numpy.radians(latitude) / 200_000)
+
+
+@pytest.mark.parametrize("crs, meridian, latitude, scale, south, name", [
+    (2180, 19, 52, 0.9993, 5_300_000, "ETRF2000-PL / CS92"), (3059, 24, 57, 0.9996, 6_000_000, "LKS92 / Latvia TM"),
+    (31467, 9, 50, 1, 0, None), (23700, 19.5, 47, 1, 0, "HD72 / EOV")])
+def test_points_of_systems_whose_x_is_the_northing(splitter, crs, meridian, latitude, scale, south, name):
+    points = degrees_at(meridian, latitude).to_crs(crs)
+    fixes = quietly(read_fixes, points)
+    if name is not None and crs != 23700:
+        assert fixes["easting"].iloc[0] == 500_000 and fixes["northing"].iloc[0] == round(scale * arc_to(latitude) - south)
+    box = quietly(home_range, fixes, levels=100).polygons().to_crs(4326).total_bounds
+    assert box == pytest.approx([meridian - 0.003, latitude - 0.005, meridian + 0.004, latitude + 0.006], abs=2e-5)
+    table = points[["animal", "timestamp"]].assign(x=points.geometry.x, y=points.geometry.y)
+    for titles in (("x", "y"), ("X", "Y")):
+        own = pandas.DataFrame(table.rename(columns=dict(zip("xy", titles))))
+        with pytest.raises(FrameError, match=f"^crs: x of {name or '.*'} is the northing, and that of a table the easting: say which it is, as by "
+                           "easting='y', northing='x', or by easting='x', northing='y'$") as fault:
+            read_fixes(own, crs=crs)
+        assert fault.value.kind == "ambiguous"
+        named = quietly(read_fixes, own, crs=crs, easting=titles[0], northing=titles[1])
+        turned = quietly(read_fixes, own.rename(columns=dict(zip(titles, titles[::-1]))), crs=crs, easting=titles[1], northing=titles[0])
+        for read in (named, turned):
+            assert read[["easting", "northing"]].equals(fixes[["easting", "northing"]])
+    assert quietly(read_fixes, pandas.DataFrame(columns_of(points)), crs=crs)["easting"].equals(fixes["easting"])
+
+
+def test_x_and_y_of_other_systems_and_of_files(splitter, tmp_path):
+    points = degrees_at(19, 52)
+    for crs in (3035, 32634, 5514):
+        moved = points.to_crs(crs)
+        own = pandas.DataFrame(points[["animal", "timestamp"]].assign(x=moved.geometry.x, y=moved.geometry.y))
+        assert quietly(read_fixes, own, crs=crs)["easting"].tolist() == moved.geometry.x.round().tolist()
+    moved = points.to_crs(2180)
+    points[["animal", "timestamp"]].assign(x=moved.geometry.x, y=moved.geometry.y).to_csv(tmp_path / "t.csv", index=False)
+    with pytest.raises(FrameError, match="^.*t.csv: crs: x of |^crs: x of "):
+        read_fixes(tmp_path / "t.csv", crs=2180)
+    assert quietly(read_fixes, tmp_path / "t.csv", crs=2180, easting="x", northing="y")["easting"].iloc[0] == 500_000

@@ -1,4 +1,5 @@
 """What data frames have and texts do not: indexes, types, reference systems, local grids; and all tables of the suite."""
+import re
 import subprocess
 import sys
 from datetime import time, timedelta, timezone
@@ -154,7 +155,7 @@ def test_shapes_of_a_plain_frame_are_no_points_yet():
 def test_planes_in_feet_say_what_helps():
     pytest.importorskip("pyproj")
     axes = 'CS[Cartesian,2],AXIS["easting",east],AXIS["northing",north],LENGTHUNIT["foot",0.3048]'
-    with pytest.raises(FrameError, match="^the CRS local is in foot and not in metres: make metres of its coordinates, which need no CRS$"):
+    with pytest.raises(FrameError, match="^crs: the CRS local is in foot and not in metres: make metres of its coordinates, which need no CRS$"):
         home_range(frame_of(a=SQUARE), crs=f'ENGCRS["local",EDATUM["x"],{axes}]')
     with pytest.raises(FrameError, match="and not in metres: make points of its columns and project these first, as by geopandas.points_"):
         home_range(frame_of(a=SQUARE), crs="EPSG:2263")
@@ -446,3 +447,27 @@ def test_days_of_moments_keep_their_zone(zone, helps):
         home_range(table, time="date,time", tz="Asia/Tokyo")
     own = table.assign(date=table["date"].dt.date)
     assert home_range(own, time="date,time", tz="UTC" if zone == "UTC" else "Asia/Tokyo").curve()["time"].tolist() == local.tolist()
+
+
+@pytest.mark.parametrize("title, word", [("local_time", "local"), ("time_cet", "cet"), ("Ortszeit", "Ortszeit"), ("Zeit (MEZ)", "MEZ")])
+def test_moments_labelled_utc_whose_title_says_another_clock_are_refused(splitter, title, word):
+    clock = pandas.DatetimeIndex(pandas.date_range("2024-05-01 08:00", periods=4, freq="h"))
+    frame = frame_of(a=SQUARE).drop(columns="timestamp").assign(**{title: clock.tz_localize("UTC")})
+    in_index = frame.drop(columns=title).set_index(clock.tz_localize("UTC").rename(title))
+    said = f"'{title}' says {word}, and its moments are labelled UTC: if they are, name tz='UTC', and else give them the zone of their clock, as by "
+    for words in ({}, {"tz": "Europe/Vienna"}, {"time": title}, {"time": title, "tz": "Europe/Vienna"}):
+        with pytest.raises(FrameError) as fault:
+            read_fixes(frame, **words)
+        assert fault.value.kind == "columns" and str(fault.value) == f"{said}frame['{title}'].dt.tz_localize(None).dt.tz_localize('Europe/Ljubljana')"
+        if "time" not in words:
+            with pytest.raises(FrameError, match=re.escape(f"{said}frame.index.tz_localize(None).tz_localize('Europe/Ljubljana')")):
+                read_fixes(in_index, **words)
+    assert read_fixes(frame, tz="UTC")["time"].tolist() == read_fixes(in_index, tz="UTC")["time"].tolist() == clock.tz_localize("UTC").tolist()
+    helped = frame.assign(**{title: frame[title].dt.tz_localize(None).dt.tz_localize("Europe/Ljubljana")})
+    assert read_fixes(helped)["time"].tolist() == clock.tz_localize("Europe/Ljubljana").tolist()
+    naive = in_index.tz_localize(None)
+    with pytest.raises(FrameError, match=re.escape(f"'{title}' says {word}, and without tz times are those of UTC: name their zone, as by tz=")):
+        read_fixes(naive)
+    assert read_fixes(naive, tz="Europe/Vienna")["time"].tolist() == clock.tz_localize("Europe/Vienna").tolist()
+    utc = frame.rename(columns={title: "time_utc"})
+    assert read_fixes(utc, tz="Europe/Vienna")["time"].tolist() == read_fixes(utc)["time"].tolist() == clock.tz_localize("UTC").tolist()

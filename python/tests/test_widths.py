@@ -51,3 +51,14 @@ def test_numbers_of_fixes_alone_have_a_width(splitter):
     assert said_of(with_missing(-16_000_000, "float32").assign(use=FRAME.index % 3 > 0)) == (4, [])
     with pytest.warns(UserWarning, match="^numbers of northing have 32 bits, and may be 0.5 m from the places that were measured$"):
         home_range(FRAME.assign(northing=FRAME["northing"].astype("float32")), unit="dm")
+
+
+def test_metres_near_0_are_no_degrees(splitter):
+    frame = pandas.DataFrame({"animal": "a", "second": [0, 60, 120, 180], "easting": [10.5, 20.25, 100, 200.5], "northing": [1.5, 3, 5, 70]})
+    with warnings.catch_warnings(record=True) as found:
+        warnings.simplefilter("always")
+        read_fixes(frame.astype({"easting": "float32", "northing": "float32"}))
+    assert not [line for line in found if "bits" in str(line.message)]
+    degrees = pandas.DataFrame({"animal": "a", "second": [0, 60, 120], "lon": [150.001, 150.002, 150.003], "lat": [-30.001, -30.002, -30.003]})
+    with pytest.warns(UserWarning, match="^numbers of lon have 32 bits, and may be 1.7 m from the places that were measured$"):
+        read_fixes(degrees.astype({"lon": "float32", "lat": "float32"}))

@@ -24,6 +24,7 @@ parts_of_column <- function(column, title) {
     kinds <- distinct(as.vector(column))
     return(parts_of_text(kinds, places_of(column, kinds), title))
   }
+  if (inherits(column, "nanotime")) return(parts_of_class(column, "nanotime"))
   if (inherits(column, "integer64")) return(parts_of_cells(digits_of_integer64(column)))
   clocks <- if (has_class_of_clocks(column)) seconds_of_clocks(column)
   if (!is.null(clocks)) return(parts_of_clocks(clocks, class(column)[1]))

@@ -70,3 +70,28 @@ zone_of_days <- function(column, tz = NULL) {
 are_midnights <- function(times, zone) {
   all(unlist(unclass(as.POSIXlt(times, tz = zone))[c("hour", "min", "sec")]) == 0, na.rm = TRUE)
 }
+
+names_of_utc <- "^(Etc/)?(UTC|GMT[+-]?0?|UCT|Zulu|Universal|Greenwich)$"
+
+# Refuses columns of moments of UTC that were read, whose title says another clock.
+refuse_other_clocks <- function(frame, titles, folder) {
+  tz <- frame$given$tz
+  if (grepl(names_of_utc, c(tz, "")[1])) return(invisible())
+  for (title in if (is.null(tz)) intersect(titles, frame$renamed[["from"]]) else titles) {
+    is_utc <- grepl(names_of_utc, zone_of_times(as.POSIXct(as.list(frame$x)[[title]])))
+    said <- if (is_utc) said_of_clock(title, folder)
+    if (!is.null(said)) {
+      refuse("columns", said, ", and its moments are labelled UTC: if they are, name tz = \"UTC\", and else give them the zone of their ",
+             "clock, as by as.POSIXct(format(x[[\"", title, "\"]]), tz = \"Europe/Ljubljana\")")
+    }
+  }
+}
+
+# What the program says of the title of a column of times, if that is another clock than that of UTC.
+said_of_clock <- function(title, folder) {
+  path <- file.path(folder, "clock.csv")
+  write_parts(`names<-`(lapply(c("2024-05-01T00:00:00Z", "500000", "5000000"), parts_of_cells), c(title, "easting", "northing")), path)
+  refusal <- run_split(path, paste0("--time=", title), file.path(folder, "clock"))
+  form <- "^column 1 ('.*' says .*), and without tz times are those of UTC: .*$"
+  if (grepl(form, c(refusal$text, "")[1])) sub(form, "\\1", refusal$text)
+}

@@ -37,26 +37,51 @@ tell_note <- function(line, kind) {
 # Has numbers written by digits, with a point, and text read as it is, until the function in this frame ends, whatever the options
 # of the session are. The arguments of that function are evaluated before, and looked at.
 local_options <- function(..., frame = parent.frame()) {
-  list(...)
-  check_parts(frame, names(formals(sys.function(sys.parent()))))
+  look_at_arguments(frame, sys.function(sys.parent()))
   old <- options(scipen = 15, OutDec = ".", digits = 7, encoding = "native.enc")
   do.call(on.exit, list(bquote(options(.(old))), add = TRUE), envir = frame)
 }
 
-# Refuses an argument of the function in a frame that was written as a part of something, such as x$season, and is NULL, as it is
-# where there is no such part.
-check_parts <- function(frame, names) {
-  names <- setdiff(names, "...")
-  written <- lapply(names, function(name) eval(call("substitute", as.name(name)), frame))
-  has_dots <- exists("...", frame, inherits = FALSE)
-  further <- if (has_dots) as.list(eval(quote(substitute(list(...))), frame))[-1]
-  written <- c(`names<-`(written, names), further)
-  is_part <- vapply(written, is_part_of_other, NA)
-  values <- c(mget(names, frame, inherits = FALSE), if (has_dots) eval(quote(list(...)), frame))
-  odd <- which(is_part & vapply(values, is.null, NA))[1]
-  if (is.na(odd)) return(invisible())
-  part <- substr(paste(deparse(written[[odd]]), collapse = " "), 1, 60)
-  refuse("option", names(written)[odd], ": ", part, " is NULL: is it misspelt? leave ", names(written)[odd], " out where none is meant")
+# What arguments that have no default are.
+wanted_arguments <- c(x = "ranges are wanted, as home_range makes them", path = "the name of a file is wanted", folder = "the name of a folder is wanted",
+                      file = "the name of a report is wanted", reserve = "an sf geometry is wanted")
+
+of_no_text <- c("levels", "progress", "quiet", "overwrite", "tidy", "units", "start", "made", "reserve", "over", "n", "ranges")
+
+# Evaluates the arguments of the function in a frame. Refuses one that is missing, or cannot be evaluated; a function, which only by may
+# be; and one that was written as a part of something, such as x$season, and is NULL, as it is where there is no such part.
+look_at_arguments <- function(frame, called) {
+  names <- setdiff(names(formals(called)), "...")
+  is_missing <- vapply(names, function(name) eval(call("missing", as.name(name)), frame), NA)
+  lost <- Filter(function(name) identical(formals(called)[[name]], quote(expr = )), names[is_missing])
+  if (length(lost)) refuse("option", lost[1], " is missing: ", wanted_arguments[lost[1]])
+  names <- names[!is_missing]
+  written <- `names<-`(lapply(names, function(name) eval(call("substitute", as.name(name)), frame)), names)
+  further <- if (exists("...", frame, inherits = FALSE)) as.list(eval(quote(substitute(list(...))), frame))[-1]
+  written <- c(written, further)
+  places <- c(names, if (length(further)) paste0("..", seq_along(further)))
+  for (at in seq_along(written)) look_at_argument(c(names(written)[at], "")[1], written[[at]], as.name(places[at]), frame)
+}
+
+look_at_argument <- function(name, written, place, frame) {
+  value <- tryCatch(eval(place, frame), error = function(fault) refuse_object(name, written, fault))
+  text <- substr(paste(deparse(written), collapse = " "), 1, 60)
+  if (is.null(value) && is_part_of_other(written)) {
+    refuse("option", name, ": ", text, " is NULL: is it misspelt? leave ", name, " out where none is meant")
+  }
+  if (is.function(value) && is.symbol(written) && name != "by") refuse("option", name, ": ", text, " is a function", help_for_quotes(name, text))
+}
+
+# Refuses an argument that names an object which there is not; R says so in the language of the session.
+refuse_object <- function(name, written, fault) {
+  is_lost <- function(own) identical(conditionMessage(fault), gettextf("object '%s' not found", own, domain = "R"))
+  lost <- Filter(is_lost, unique(all.names(written)))
+  if (!length(lost)) stop(fault)
+  refuse("option", if (nzchar(name)) paste0(name, ": "), "there is no object '", lost[1], "'", if (is.symbol(written)) help_for_quotes(name, lost[1]))
+}
+
+help_for_quotes <- function(name, text) {
+  if (!name %in% of_no_text) paste0(": a title, or another text, stands in quotes, as by ", if (nzchar(name)) paste(name, "= "), "\"", text, "\"")
 }
 
 # Whether an expression names a part of something, as x$season, x[["season"]] and x$season[1:9] do.

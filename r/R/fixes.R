@@ -33,6 +33,16 @@ as.data.frame.homerange_fixes <- function(x, row.names = NULL, optional = FALSE,
   if (is.data.frame(found)) with_reading(found, x) else found
 }
 
+# All columns as texts, as write.csv has them, which would write times by their clock without its offset, and 500000 as 5e+05.
+`[<-.homerange_fixes` <- function(x, i, j, value) {
+  found <- NextMethod()
+  are_texts <- missing(i) && missing(j) && inherits(x[["time"]], "POSIXct") && identical(as.list(value)[["time"]], as.character(x[["time"]]))
+  if (!are_texts) return(found)
+  found[["time"]] <- sub("([0-9]{2})$", ":\\1", format(x[["time"]], "%Y-%m-%dT%H:%M:%S%z"))
+  for (side in c("easting", "northing")) if (is_plain_number(found[[side]])) found[[side]] <- cells_of_numbers(found[[side]])
+  found
+}
+
 # Whether a table is of fixes of which is known how they were read. Other packages may have taken the class away, and not this.
 is_fixes <- function(x) !is.null(facts_of(x)) && has_columns(x) && !inherits(x, "sf")
 
@@ -289,7 +299,7 @@ st_as_sf.homerange_fixes <- function(x, ...) {
   sides <- list2DF(sapply(c("easting", "northing"), function(title) numbers_of(x[[title]], title), simplify = FALSE))
   sides[!stats::complete.cases(sides), ] <- NA_real_
   places <- if (nrow(x)) sf::st_geometry(sf::st_as_sf(sides, coords = names(sides), crs = crs, na.fail = FALSE)) else sf::st_sfc(crs = crs)
-  structure(sf::st_sf(as.data.frame.homerange_fixes(x), geometry = places), homerange = facts_of(x))
+  with_points(sf::st_sf(as.data.frame.homerange_fixes(x), geometry = places), x)
 }
 
 # Refuses fixes whose places are no numbers, or not there once, as they are refused that are read again.

@@ -62,7 +62,10 @@ labels_of <- function(fixes, by, frame = NULL, is_file = FALSE) {
   if (is_text(by) && !length(own) && by %in% names(fixes)) {
     by <- fixes[[by]]
   } else if (is.function(by)) {
-    by <- by(fixes)
+    by <- tryCatch(by(fixes), error = function(fault) {
+      refuse("option", "by: the function of the fixes has failed: ", one_line(conditionMessage(fault)), ": a title, or a period such as \"month\", ",
+             "stands in quotes")
+    })
   } else {
     if (length(own)) by <- own[[1]] else check_titles(by, fixes)
     if (!is.null(frame)) return(check_labels(text_of_groups(values_of(by, frame$number, "rows"))[frame$rows], frame$rows))
@@ -81,6 +84,26 @@ check_order <- function(x, by, is_made) {
   refuse("option", "by: it is not known which of the fixes each value is of, since these may stand in another order than the rows that ",
          "were read, or be fewer: make the values a column of that table before read_fixes, or, if they were made of these fixes, ",
          "a column of these, as by fixes$group <- .., and name it, as by by = \"group\"")
+}
+
+# Refuses values that are those of a column of a table in another order than that of its rows, as of a table that was sorted since: in the
+# order of its names of rows, or under the title of that column.
+check_turned <- function(x, by, expression) {
+  if (!is.data.frame(x) || is_fixes(as_fixes(x)) || !is.atomic(by) || length(by) != nrow(x) || length(by) < 2) return(invisible())
+  columns <- Filter(is.atomic, columns_of(x))
+  is_by <- function(column) identical(as.vector(column), as.vector(by))
+  rows <- attr(x, "row.names")
+  before <- if (is.integer(rows) && is.unsorted(rows)) order(rows)
+  named <- if (is.call(expression) && as.character(expression[[1]])[1] %in% c("$", "[[")) as.character(expression[[3]])[1]
+  is_turned <- function(title) {
+    column <- columns[[title]]
+    length(before) && is_by(column[before]) || title %in% named && identical(sort(as.vector(column)), sort(as.vector(by)))
+  }
+  turned <- if (!any(vapply(columns, is_by, NA))) Filter(is_turned, names(columns))
+  if (length(turned)) {
+    refuse("option", "by: the values are those of the column '", turned[1], "' of the table in another order than that of its rows: name it, as by ",
+           "by = \"", turned[1], "\"")
+  }
 }
 
 # Whether an expression is made of one variable alone, which is the table.
@@ -194,6 +217,14 @@ check_period <- function(by, titles) {
   if (by %in% titles) {
     refuse("option", "by = \"", by, "\" is a period of the calendar, and a column too: by = fixes$", by, " takes the column")
   }
+}
+
+# What is said of a period that is also the title of a column of the file that fixes are of.
+line_of_period <- function(by, fixes) {
+  facts <- facts_of(fixes)
+  is_there <- is.null(facts$sources) && is_listed(by, grep("^not read: ", facts$notes, value = TRUE))
+  if (is_there) paste0("ranges are by the ", by, " of the calendar, and not by the column '", by, "' of the file, which is not kept: ",
+                       "read the file before to take that")
 }
 
 # Why seconds have no calendar, and what helps.

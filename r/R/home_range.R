@@ -12,6 +12,7 @@ home_range <- function(x, levels = c(50, 95, 100), by = NULL, ..., progress = in
            "the data frame, with a value for each of its rows")
   }
   check_order(x, by, is_made_of(substitute(x), substitute(by)))
+  check_turned(x, by, substitute(by))
   program <- homerange_program()  # refuses now, and not after all has been read, where there is none
   ranges <- in_folder(function(folder) {
     if (is_period(by)) check_period(by, names(x))
@@ -19,7 +20,7 @@ home_range <- function(x, levels = c(50, 95, 100), by = NULL, ..., progress = in
     whole <- whole_fixes(read$fixes)
     if (!is.null(by)) {
       labels <- labels_of(read$fixes, by, read$frame, is_text(x))
-      whole <- grouped_fixes(whole, labels, if (!is_period(by)) questions_of_groups(labels))
+      whole <- grouped_fixes(whole, labels, if (is_period(by)) line_of_period(by, read$fixes) else questions_of_groups(labels))
       if (!quiet) for (line in whole$notes) tell_note(line, kind_of_said(line))
     }
     tracks <- if (is.null(by) && !is.null(read$tracks)) read$tracks else write_tracks(whole$fixes, folder)
@@ -93,6 +94,7 @@ help_for_level <- function(level) {
 
 # Refuses arguments that the function which calls has not.
 check_dots <- function(...) {
+  look_at_arguments(parent.frame(), sys.function(sys.parent()))
   names <- names_of_arguments(...)
   if (length(names)) refuse_argument(names[1], names(formals(sys.function(sys.parent()))))
 }

@@ -46,3 +46,44 @@ vec_cast.homerange_fixes.homerange_fixes <- function(x, to, ...) {
 
 # Of tidyr.
 verb_of_tidyr <- function(data, ...) with_reading(NextMethod(), data)
+
+# Of sf: points of fixes keep what is known, also without a column that fixes need, so that they are said to have lost it.
+with_points <- function(table, points) {
+  if (!is.data.frame(table)) return(table)
+  attr(table, "homerange") <- facts_of(points)
+  if (inherits(table, "sf")) class(table) <- union("homerange_points", class(table))
+  table
+}
+
+points_of_sf <- function(x, ...) with_points(NextMethod(), x)
+
+points_of_dplyr <- function(.data, ...) with_points(NextMethod(), .data)
+
+`[.homerange_points` <- function(x, ...) with_points(NextMethod(), x)
+
+`[[<-.homerange_points` <- function(x, i, value) with_points(NextMethod(), x)
+
+`$<-.homerange_points` <- function(x, name, value) with_points(NextMethod(), x)
+
+transform.homerange_points <- function(`_data`, ...) with_points(NextMethod(), `_data`)
+
+`st_crs<-.homerange_points` <- function(x, value) with_points(NextMethod(), x)
+
+`st_geometry<-.homerange_points` <- function(x, value) with_points(NextMethod(), x)
+
+rbind.homerange_points <- function(..., deparse.level = 1) {
+  all <- Filter(Negate(is.null), list(...))
+  bound <- do.call(rbind.homerange_fixes, lapply(all, fixes_of_points))
+  with_points(do.call(utils::getS3method("rbind", "sf", envir = asNamespace("sf")), all), bound)
+}
+
+st_drop_geometry.homerange_points <- function(x, ...) fixes_of_points(x)
+
+# Points of fixes as these, wherever the points lie now.
+fixes_of_points <- function(points) {
+  if (!inherits(points, "sf")) return(points)
+  with_reading(structure(columns_of(points), class = "data.frame", row.names = attr(points, "row.names")), points)
+}
+
+# What sf makes of points it makes of those of fixes.
+sf_of_fixes <- function(x, ...) getExportedValue("sf", .Generic)(st_as_sf.homerange_fixes(x), ...)

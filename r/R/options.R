@@ -124,6 +124,9 @@ text_of_text <- function(option, value) {
 
 # The title of a column, or several.
 text_of_titles <- function(option, value) {
+  if (inherits(value, c("Date", "POSIXt", "factor")) || !is.character(value) && is.atomic(value) && length(value) > 1) {
+    refuse("option", option, " has values, and the title of their column is wanted, in quotes, as by ", option, " = \"COLUMN\"")
+  }
   if (!is.character(value) || !length(value) || anyNA(value)) {
     refuse("option", argument_text(option, value), " is no name of a column: a text, or several, is wanted")
   }
@@ -183,7 +186,11 @@ text_of_speed <- function(value) {
 # A text, a day, or another moment in UTC.
 text_of_bound <- function(option, value) {
   if (is_text(value)) return(as.vector(value))
-  if (length(value) != 1 && !inherits(value, "POSIXlt") || !inherits(value, c("Date", "POSIXt"))) {
+  if (inherits(value, c("Date", "POSIXt")) && length(value) != 1 || is.character(value) && length(value) > 1) {
+    refuse("option", option, " has ", length(value), " values, and one moment is wanted, such as \"2024-05-01\"")
+  }
+  if (isTRUE(is.na(value))) refuse("option", option, " is missing, and a moment is wanted: leave ", option, " out where none is meant")
+  if (!inherits(value, c("Date", "POSIXt"))) {
     refuse("option", argument_text(option, value), " is neither a text such as \"2024-05-01\" nor a date")
   }
   cell <- cells_of_column(value, option)

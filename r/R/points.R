@@ -77,8 +77,8 @@ places_of_columns <- function(x, given, names_places) {
   if (is_without_place(crs, "crs")) return(NULL)
   points <- "the points, as by sf::st_as_sf(x, coords = c(EASTING, NORTHING), crs = ..)"
   if (is_in_degrees(crs, points, function() matrix(0, 0, 2))) {
-    refuse("crs", "the CRS ", crs$Name, " has longitude and latitude, which are no plane coordinates: name their columns by lon ",
-           "and lat, without crs")
+    refuse_crs("the CRS ", crs$Name, " has longitude and latitude, which are no plane coordinates: name their columns by lon and lat, ",
+               "without crs")
   }
   plane_of(crs, given)
 }
@@ -88,8 +88,8 @@ plane_of <- function(crs, given) {
   if (is.null(crs)) return(NULL)
   zone <- zone_of_crs(crs)
   if (!is.null(given$zone) && !identical(zone, toupper(sub("^0?([0-9]+) ?", "\\1", given$zone)))) {
-    refuse("zone", "the coordinates are of the zone ", given$zone, ", and the CRS ", one_line(crs$Name), " is ",
-           if (is.null(zone)) "none of UTM" else paste("that of", zone), ": give one of the two")
+    refuse_crs("the coordinates are of the zone ", given$zone, ", and the CRS ", one_line(crs$Name), " is ",
+               if (is.null(zone)) "none of UTM" else paste("that of", zone), ": give one of the two", kind = "zone")
   }
   if (is.null(zone)) return(list(crs = crs, words = paste0("--crs=", text_of_crs(crs))))
   list(words = if (is.null(given$zone)) paste0("--zone=", zone))

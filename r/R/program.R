@@ -1,7 +1,10 @@
 # Finds the programs homerange, homerange-split and homerange-page, and runs homerange.
 
 # The path of the program.
-homerange_program <- function() normalizePath(found_program(getNamespaceInfo("homerange", "path")))
+homerange_program <- function(...) {
+  check_dots(...)
+  normalizePath(found_program(getNamespaceInfo("homerange", "path")))
+}
 
 # The program that is named, that of the installed package in this folder, that of the clone that it stands in, or the one on
 # PATH.

@@ -27,11 +27,23 @@ read_table <- function(x, options, quiet, folder, has_rows = TRUE, used = NULL) 
     if (!nzchar(x)) refuse("option", argument_text("x", x), " is no path")
     read_file(x, given, folder)
   } else {
-    read_frame(x, given, folder, has_rows)
+    with_left_before(read_frame(x, given, folder, has_rows), x, given$animal)
   }
   session <- if (is_of_session(options)) paste0("days and hours are those of ", given$tz, ", the zone of the session")
   read$said <- c(session, groups, read$said)
   if (!quiet) for (line in read$said) tell_note(line, kind_of_said(line))
+  read
+}
+
+# What was read of points of fixes that lie elsewhere now, with what was left out of these before, of no animal where these have others.
+with_left_before <- function(read, x, animal) {
+  if (is.null(facts_of(x)) || !has_columns(x)) return(read)
+  since <- left_since(fixes_of_points(x))
+  facts <- facts_of(read$fixes)
+  if (!identical(c(animal, "animal")[1], "animal")) since <- list(left = replace(since$left, "animal", ""), unknown = names(facts$fixes))
+  facts$left_out <- summed_left(rbind(since$left, facts$left_out))
+  facts$unknown <- since$unknown
+  attr(read$fixes, "homerange") <- facts
   read
 }
 
@@ -47,9 +59,13 @@ line_of_lost <- function(x) {
   paste0("fixes without their column '", lost, "' are read as a data frame, whose zone is not known unless it is named")
 }
 
+# What reads files of other forms, by how their names end.
+readers <- c("[.]rds$" = "readRDS", "[.](geojson|json|shp)$" = "sf::st_read", "[.]parquet$" = "arrow::read_parquet", "[.]feather$" = "arrow::read_feather")
+
 # The fixes of a file of text.
 read_file <- function(path, given, folder) {
-  if (grepl("[.]rds$", in_small(readable(path)))) refuse("text", path, " is a file of R: read what it has, as by read_fixes(readRDS(..))")
+  reader <- readers[vapply(names(readers), grepl, NA, in_small(readable(path)))]
+  if (length(reader)) refuse("text", path, " is no text with a line of titles: read what it has, as by read_fixes(", reader[1], "(..))")
   places <- places_of_columns(NULL, given, TRUE)
   full <- path_for_program(path, folder)
   into <- file.path(folder, "tracks")
@@ -61,7 +77,9 @@ read_file <- function(path, given, folder) {
     record <- if (!is.null(refusal$record)) sprintf("record %.0f: ", refusal$record)
     refuse(refusal$kind, file, record, text, record = refusal$record)
   }
-  fixes_of_tracks(into, if (is.null(given$tz)) "UTC" else given$tz, places$crs, read_record(file.path(into, "split.txt"))$said)
+  said <- read_record(file.path(into, "split.txt"))$said
+  check_turned_sides(places$crs, said, given)
+  fixes_of_tracks(into, if (is.null(given$tz)) "UTC" else given$tz, places$crs, said)
 }
 
 # The fixes of tracks, and what is to be said of them: by the clock of a zone, in a reference system that is known otherwise than
@@ -70,10 +88,10 @@ fixes_of_tracks <- function(into, tz, crs, said, further = function(record, fixe
   record <- read_record(file.path(into, "split.txt"))
   if (!is.null(crs) && !is.null(record$zone)) {
     if (any(startsWith(record$said, "longitude and latitude are projected into zone "))) {
-      refuse("zone", "longitude and latitude are read, which are projected into the zone ", record$zone, ", and crs is the reference system of ",
-             "easting and northing: leave crs out, or name these by easting and northing")
+      refuse_crs("longitude and latitude are read, which are projected into the zone ", record$zone, ", and crs is the reference system of ",
+                 "easting and northing: leave crs out, or name these by easting and northing", kind = "zone")
     }
-    refuse("zone", "the coordinates are of the zone ", record$zone, ", and the CRS ", crs$Name, " is none of UTM: give one of the two")
+    refuse_crs("the coordinates are of the zone ", record$zone, ", and the CRS ", crs$Name, " is none of UTM: give one of the two", kind = "zone")
   }
   fixes <- read_tracks(into, record)
   table <- table_of_fixes(fixes, record, tz, further(record, fixes))

@@ -29,6 +29,8 @@ read_frame <- function(x, given, folder, has_rows) {
   rows <- NULL
   sources <- titles_read(frame$x, said)
   check_text_form(frame, sources)
+  check_turned_sides(frame$places$crs, said, given)
+  refuse_other_clocks(frame, intersect(sources, frame$moments), folder)
   said <- c(groups_of_dplyr(x, titles_of_animals(frame, said)), frame$places$line, frame$clock$line, of_frame(said, x))
   read <- fixes_of_tracks(into, c(given$tz, frame$clock$tz, "UTC")[1], frame$places$crs, said, function(record, fixes) {
     if (has_rows) rows <<- records_of_fixes(into, record, fixes)
@@ -88,7 +90,9 @@ help_for_table <- function(x) {
     return(paste0("bind those that are in it, as by do.call(rbind, unname(x))", if (!is.null(names(x)))
       ", or where its names are those of the animals by do.call(rbind, Map(cbind, animal = names(x), unname(x)))"))
   }
-  paste("make it one, as by", if (inherits(x, "Spatial")) "sf::st_as_sf(x)" else if (is.matrix(x)) "as.data.frame(x)" else "data.frame(..)")
+  if (inherits(x, "zoo")) return("make it one, as by data.frame(time = zoo::index(x), zoo::coredata(x))")
+  if (inherits(x, "sfc")) return("make it one, as by sf::st_sf(animal = .., time = .., geometry = x)")
+  paste("make it one, as by", if (inherits(x, c("Spatial", "SpatVector"))) "sf::st_as_sf(x)" else if (is.matrix(x)) "as.data.frame(x)" else "data.frame(..)")
 }
 
 # The options of a table that says itself which columns have the animal and the time: of move2, or points of fixes that were moved.

@@ -17,7 +17,7 @@ remedy_of_class <- function(column, class, days = NULL, title = NULL, moment = N
   switch(
     class, difftime = , Period = , Duration = paste0("if it is a time, ", in_seconds),
     Interval = "lubridate::int_start(x) makes times of it",
-    haven_labelled = , haven_labelled_spss = "haven::as_factor(x) makes text of it", chron = , dates = "as.POSIXct(x) makes times of it",
+    haven_labelled = , haven_labelled_spss = "haven::as_factor(x) makes text of it", chron = , dates = , nanotime = "as.POSIXct(x) makes times of it",
     "make text, numbers or times of it"
   )
 }

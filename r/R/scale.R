@@ -15,7 +15,7 @@ check_scales <- function(table, crs) {
   means <- lapply(table[c("easting", "northing")], tapply, animal, mean)
   away <- mapply(scales_of_crs(crs), means$easting, means$northing) - 1
   lost <- levels(animal)[!is.finite(colSums(away))]
-  if (length(lost)) refuse("scale", "the fixes of ", lost[1], " have no place on this grid", help_for_scale)
+  if (length(lost)) refuse_crs("the fixes of ", lost[1], " have no place on this grid", help_for_scale, kind = "scale")
   unlist(lapply(rownames(away), function(what) line_of_worst(what, away[what, ], levels(animal))))
 }
 
@@ -26,7 +26,7 @@ line_of_worst <- function(what, away, animals) {
   share <- sprintf("%.2f %%", 100 * abs(worst))
   text <- if (what == "lengths") paste0("lengths of ", animals[place], " differ by up to ", share, " by direction on this grid") else
     paste0("areas of ", animals[place], " are ", share, " too ", if (worst > 0) "great" else "small", " on this grid")
-  if (abs(worst) > scales_refused[[what]]) refuse("scale", text, help_for_scale)
+  if (abs(worst) > scales_refused[[what]]) refuse_crs(text, help_for_scale, kind = "scale")
   if (abs(worst) > scales_told[[what]]) text
 }
 

@@ -10,19 +10,35 @@ radius_of_earth <- c(6350000, 6400000)  # metres between which that of a body is
 
 has_sf <- function() requireNamespace("sf", quietly = TRUE)
 
+# Refuses a reference system, that of an argument or of points, which have it under the same name.
+refuse_crs <- function(..., kind = "crs") refuse(kind, "crs: ", ...)
+
+# Refuses columns titled x and y, which nobody named as a side, of a system whose own x is the northing, as surveyors have it.
+check_turned_sides <- function(crs, said, given) {
+  line <- in_small(sub(";.*", "", grep("^columns: ", said, value = TRUE)))
+  if (is.null(crs) || !is.null(given$easting) || !any(endsWith(line, ", x, y"))) return(invisible())
+  wkt <- sf::st_crs(crs$wkt)$wkt
+  names <- in_small(of_axes("AXIS\\[\"[^\"]*\\(([A-Za-z]+)\\)\"", wkt))
+  ways <- in_small(of_axes("AXIS\\[\"[^\"]*\",\\s*([A-Za-z]+)", wkt))
+  if (identical(names[order(names)], c("x", "y")) && identical(ways[order(names)], c("north", "east"))) {
+    refuse_crs("x of ", one_line(crs$Name), " is the northing, and that of a table the easting: say which it is, as by easting = \"y\", ",
+               "northing = \"x\", or by easting = \"x\", northing = \"y\"", kind = "ambiguous")
+  }
+}
+
 # Whether a reference system is that of no place: none, or that of a site in metres. Of a site in another unit it is refused.
 is_without_place <- function(crs, name) {
   if (is.na(crs) || !isTRUE(nzchar(crs$wkt))) return(TRUE)
   if (!grepl(system_of_a_site, crs$wkt)) return(FALSE)
   found <- regmatches(crs$wkt, regexec(unit_of_a_site, crs$wkt))[[1]]
   if (length(found) && !as.numeric(found[3]) %in% c(0, 1)) {
-    refuse("crs", name, ": the unit of the coordinates is not the metre but ", found[2], ": turn them into metres first, ",
+    refuse("crs", if (name == "x") "crs" else name, ": the unit of the coordinates is not the metre but ", found[2], ": turn them into metres first, ",
            if (name == "crs") "and leave crs out" else paste0("as by sf::st_set_geometry(x, sf::st_geometry(x) * ", found[3], ")"))
   }
   turned <- turned_axes(crs$wkt)
   if (!is.null(turned)) {
     own <- sub("^[A-Z_]+\\[\"([^\"]*)\".*", "\\1", crs$wkt)
-    refuse("crs", axes_text(own, turned), ": make eastings and northings of its coordinates, which need no CRS")
+    refuse_crs(axes_text(own, turned), ": make eastings and northings of its coordinates, which need no CRS")
   }
   TRUE
 }
@@ -32,15 +48,15 @@ is_without_place <- function(crs, name) {
 is_in_degrees <- function(crs, name, coordinates) {
   major <- as.numeric(crs$SemiMajor)
   if (is.finite(major) && !(major > radius_of_earth[1] && major < radius_of_earth[2])) {
-    refuse("crs", "the CRS ", one_line(crs$Name), " is of another body than the Earth")
+    refuse_crs("the CRS ", one_line(crs$Name), " is of another body than the Earth")
   }
   if (isTRUE(sf::st_is_longlat(crs))) return(TRUE)
   has_way <- isTRUE(nzchar(crs$proj4string)) && !grepl("+proj=geocent", crs$proj4string, fixed = TRUE)
-  if (!has_way) refuse("crs", "the CRS ", one_line(crs$Name), " is not a plane one in metres: project the points first")
+  if (!has_way) refuse_crs("the CRS ", one_line(crs$Name), " is not a plane one in metres: project the points first")
   wkt <- sf::st_crs(crs$wkt)$wkt  # in its newest form: systems that older versions of sf have written are in another
   unit <- unit_of_plane(wkt)
   if (is.null(unit) && is.na(crs$proj4string)) {
-    refuse("crs", "the CRS ", one_line(crs$Name), " has no way to longitude and latitude that sf knows: name another one, such as by its code")
+    refuse_crs("the CRS ", one_line(crs$Name), " has no way to longitude and latitude that sf knows: name another one, such as by its code")
   }
   turned <- turned_axes(wkt)
   kind <- "crs"
@@ -53,7 +69,7 @@ is_in_degrees <- function(crs, name, coordinates) {
     kind <- "scale"
     paste0("areas in the CRS ", one_line(crs$Name), " grow away from the equator")
   }
-  if (!is.null(why)) refuse(kind, why, ": sf::st_transform(", name, ", ", utm_code_of(coordinates(), crs), ")")
+  if (!is.null(why)) refuse_crs(why, ": sf::st_transform(", name, ", ", utm_code_of(coordinates(), crs), ")", kind = kind)
   FALSE
 }
 

@@ -63,7 +63,9 @@
 \details{
 Rows that are taken by \code{[}, \code{subset} or \code{head}, and what \code{merge}, \code{transform}, \code{within}, \code{cbind},
 most verbs of dplyr and tidyr, groups, tibbles and data tables make of them, stay fixes, with what is known of them, as long as they have
-the columns of fixes; so do points of sf that were not moved. Of others, as those of \code{data.frame(fixes)}, of \code{aggregate} or
+the columns of fixes; so do points of sf, also what \code{st_crop}, \code{st_intersection}, \code{st_join} and \code{st_filter} make of them, which take fixes too;
+of points that were moved the counts stay. \code{write.csv} of fixes writes times with their offset; of \code{as.data.frame(fixes)} it writes
+them by their clock without it, which \code{tz} has to say when they are read. Of others, as those of \code{data.frame(fixes)}, of \code{aggregate} or
 of a merge of data tables, nothing is known, neither the unit nor the zone nor what was taken away: they are read as any table, whose
 zone is not known. Such are also tables that tidyr makes anew, by \code{unnest} of what \code{nest} made, by \code{pivot_wider}, \code{hoist} and
 \code{separate_wider_delim}, and rows that data.table makes anew, by \code{fixes[, .SD[1:5], by = animal]}, \code{fixes[, .(..)]} and

@@ -3,7 +3,10 @@
 \title{Which Program Is Run}
 \description{Finds the program \code{homerange} that \code{\link{home_range}} runs.}
 \usage{
-homerange_program()
+homerange_program(...)
+}
+\arguments{
+  \item{...}{nothing: arguments that there are not are refused}
 }
 \details{
 The first of these counts: the file that \code{options(homerange.program = "...")} names; the file that the environment's

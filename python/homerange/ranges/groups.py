@@ -101,15 +101,25 @@ def column_named(table: ReadTable, by: str) -> pandas.Series:
         rows = own.iloc[table.rows]
     if [*rows.columns].count(by) > 1:
         refuse(f"by: there are two columns {by!r}: rename one", "ambiguous")
-    reading = reading_of(table.fixes)
-    unread = next((line.removeprefix(UNREAD) for line in reading.notes if line.startswith(UNREAD)), "")
-    is_of_file = not reading.titles and (by not in rows or table.frame is None and len(table.said) > 0)
-    if is_of_file and f", {one_line(by)}," in f", {unread},":
+    if is_of_file(table.fixes, by) and (by not in rows or table.frame is None and len(table.said) > 0):
         refuse(f"by: the column {by!r} of a file is not kept: read the file by pandas before, as by pandas.read_csv(..), and take that "
                "in its place", "columns")
     if by not in rows:
         refuse(f"by: there is no column {by!r}, and it is none of {', '.join(map(repr, PERIODS))}", "columns")
     return rows[by]
+
+
+def is_of_file(fixes: Fixes, by: str) -> bool:
+    """Whether fixes are of a file that has a column of this title, which was not read."""
+    reading = reading_of(fixes)
+    unread = next((line.removeprefix(UNREAD) for line in reading.notes if line.startswith(UNREAD)), "")
+    return not reading.titles and f", {one_line(by)}," in f", {unread},"
+
+
+def said_of_period(fixes: Fixes, by: str) -> list[str]:
+    """What is said of a period that is also the title of a column of the file that fixes are of."""
+    said = f"ranges are by the {by} of the calendar, and not by the column '{by}' of the file, which is not kept: read the file before to take that"
+    return [said] if is_of_file(fixes, by) else []
 
 
 def may_be_by_place(values: pandas.Series, frame: pandas.DataFrame) -> bool:

@@ -25,7 +25,7 @@ from ..record import Record, difference_from_record, read_record
 from ..report import Corners, Percent, Report, Table, doubled_area, read as read_lines
 from ..units import UNITS, zone_of_time, zone_text
 from ..zones import text_of_crs
-from .groups import Group, check_by, group_tracks, is_period, labels_of, questions_of
+from .groups import Group, check_by, group_tracks, is_period, labels_of, questions_of, said_of_period
 from .growth import share
 from .outer import counts_within, polygon_kept
 from .overview import Facts, Row, facts_of, reasons_of, rows_of
@@ -97,6 +97,7 @@ class HomeRanges:
         scale, (east, north) = UNITS[self.unit].per_metre, self.shift
         return [(easting / scale - east, northing / scale - north) for easting, northing in points]
 
+    @says_ours
     def summary(self) -> pandas.DataFrame:
         """A row for each animal and level: ``animal``; ``first`` and ``last``, the times of its first and last fix;
         ``fixes``, how many there are, and ``left_out``, how many rows of the frame are not among them (missing where it
@@ -123,6 +124,7 @@ class HomeRanges:
             left[name] += count
         return {name: left[name] for name in self.record.tracks}
 
+    @says_ours
     def by_group(self, table: pandas.DataFrame) -> pandas.DataFrame:
         """A table with a column of animals, which where ranges are by groups gets one of groups behind it."""
         if self.groups:
@@ -158,6 +160,7 @@ class HomeRanges:
         """What follows from the report alone."""
         return {name: facts_of(table) for name, table in self._report.tables.items()}
 
+    @says_ours
     def overview(self) -> pandas.DataFrame:
         """A row for each animal: ``animal``; ``records``, its fixes in the export or the frame; ``left_REASON`` for each
         reason that occurs, how many were left out for it (both missing where it is not known, as of an animal that got
@@ -182,6 +185,7 @@ class HomeRanges:
         growth = self._growth(rows).drop(columns=["animal", "fixes", "hectares"])
         return self.by_group(pandas.concat([pandas.DataFrame(table), growth], axis="columns"))
 
+    @says_ours
     def growth(self) -> pandas.DataFrame:
         """How the area of all fixes grew with their number (incremental area analysis, Harris et al. 1990), a row for
         each animal: ``animal``; ``fixes``; ``hectares`` of all of them; ``within_95_fix`` and ``within_95_time``, the
@@ -200,12 +204,14 @@ class HomeRanges:
             "last_tenth": [share(own.tenth, own.area2) for own in found],
             "last_quarter": [share(own.quarter, own.area2) for own in found]})
 
+    @says_ours
     def left_out(self) -> pandas.DataFrame:
         """How many fixes were left out of the table, a row for each ``animal`` and ``reason``, with ``fixes``. The reasons
         are those of docs/TABLES.md, such as chosen, of fixes that were read and are not among those that were handed in."""
         rows = [(name, reason, count) for (name, reason), count in sorted(self.reasons().items()) if count]
         return pandas.DataFrame(rows, columns=["animal", "reason", "fixes"])
 
+    @says_ours
     def curve(self) -> pandas.DataFrame:
         """The table of incremental area analysis (Harris et al. 1990), a row for each fix: ``animal``; ``n``, the
         number of the fix; its ``time``; and ``corners`` and ``hectares`` of the polygon of the first n fixes. Where seconds
@@ -337,6 +343,7 @@ class HomeRanges:
         table = self.by_group(pandas.DataFrame(rows, columns=titles))
         return geopandas.GeoDataFrame(table, geometry="geometry", crs=self.crs)
 
+    @says_ours
     def evidence(self, folder: str | os.PathLike[str], **page: Any) -> None:
         """Makes all that is handed in, in a new folder, as docs/EVIDENCE.md describes it: the fixes as files, by names as
         homerange-split makes them, with a record of how they were made, or the files and the record that ``read_report`` was
@@ -402,6 +409,7 @@ def levels_of(levels: Any, what: str = "levels") -> list[int]:
     return found
 
 
+@says_ours
 def home_range(
     x: Any, levels: int | Iterable[int] = (50, 95, 100), by: Any = None, program: str | os.PathLike[str] | None = None,
     jobs: int | None = None, progress: Callable[[int, int], object] | bool | None = None, **reading: Any,
@@ -441,7 +449,7 @@ def home_range(
         tracks, groups = tracks_of_fixes(table.fixes), dict[str, Group]()
         if by is not None:
             labels = labels_of(table, by)
-            questions = [] if is_period(by) else questions_of(labels, Path(folder), program)
+            questions = said_of_period(table.fixes, by) if is_period(by) else questions_of(labels, Path(folder), program)
             tracks, groups = group_tracks(tracks, labels, questions)
         own, files = reading_of(table.fixes), Path(folder) / "tracks"
         tell([*table.said, *tracks.notes[len(own.notes):]])

@@ -19,6 +19,7 @@ import pandas
 from numpy.typing import NDArray
 from pandas.core.groupby import DataFrameGroupBy
 
+from ..arguments import says_ours
 from ..errors import FrameError, HomeRangeInfo, HomeRangeNote, check_no_pipe, one_line, path_of, refuse
 from ..program import PACKAGE, find_split_program
 from ..record import Record, read_record
@@ -29,10 +30,11 @@ from .cells import cells_of
 from .changes import (
     PLACES, are_rows_of_table, checksum_of_rows, has_labels, judged_rows, left_since, own_titles, refuse_changed, refuse_unread,
     refuse_unread_rows, seen, with_named_levels)
+from .clocks import refuse_other_clocks
 from .fixes import Fixes, Reading, clock_of, is_known, is_of_classes, reading_of
 from .helps import with_help
 from .refusals import COLUMNS, check_cells, columns_read, refuse_text
-from .systems import are_degrees, crs_named, options_of, refuse_beside_zone, scales_said
+from .systems import are_degrees, check_sides, crs_named, options_of, refuse_beside_zone, scales_said
 from .text import (
     NAME, Text, frame_given, has_times, in_own_words, plain, text_of_frame, with_clock_of, with_time_named, write_text, zones_in)
 from .tracks import NAMED, Whole, left_out, own_names, read_tracks, rows_of
@@ -50,6 +52,8 @@ TAKEN = (READ, "UTM coordinates are", "coordinates are those", "longitude and la
 # Options that want columns of fixes beside their own.
 OF_COLUMNS = {"animal", "time", "easting", "northing", "lon", "lat", "argos", "argos_class", "dop", "max_dop", "fix", "fix_type", "sensor"}
 OWN = ("animal", "time", "second", *PLACES)  # titles that fixes have
+READERS = {(".geojson", ".json", ".shp"): "geopandas.read_file", (".parquet",): "pandas.read_parquet", (".feather",): "pandas.read_feather",
+           (".pickle", ".pkl"): "pandas.read_pickle"}  # what reads files of other forms, by how their names end
 OFFSET = re.compile("(Z|[+-][0-9]{2}:?[0-9]{2})$")  # of a text of a time
 RECORDS = re.compile(r"(?<=: )records ([0-9]+(?:, [0-9]+)*)(?=,? ?[.:]|$)")  # in what is said
 
@@ -80,6 +84,7 @@ def calls_within(frame: FrameType | None) -> int:
     return calls
 
 
+@says_ours
 def read_fixes(x: Any, *, program: str | os.PathLike[str] | None = None, **options: Any) -> Fixes:
     """The fixes of a table, as a data frame of pandas for ``home_range``, which knows how it was read.
 
@@ -256,8 +261,16 @@ def refuse_system(before: Reading, wishes: Mapping[str, Any]) -> None:
                "the table anew by read_fixes", name)
 
 
+def refuse_form(path: Path) -> None:
+    """Refuses a file of another form than text with titles, by its name, with what reads it."""
+    reader = next((reader for forms, reader in READERS.items() if path.suffix.lower() in forms), None)
+    if reader is not None and path.is_file():
+        refuse(f"{path} is no text with a line of titles: read what it has, as by read_fixes({reader}(..))", "text")
+
+
 def read_file(path: Path, options: Mapping[str, Any], folder: Path, program: str) -> ReadTable:
     """The fixes of a file."""
+    refuse_form(path)
     crs = None if options.get("crs") is None else crs_named(options["crs"])
     found = {**options, "crs": None, **options_of(crs, options.get("zone"))}
     try:
@@ -267,6 +280,7 @@ def read_file(path: Path, options: Mapping[str, Any], folder: Path, program: str
         text = text if fault.record is None else f"record {fault.record}: {text}"
         raise FrameError(text if text.startswith(shown) else f"{shown}: {text}", fault.kind, fault.record) from None
     record = read_record(folder / "tracks" / "split.txt")
+    check_sides(crs, record.said, options)
     whole = read_tracks(folder / "tracks", record)
     fixes = fixes_of(whole, record, folder, options.get("tz"), crs, [])
     return ReadTable(fixes, reading_of(fixes).notes)
@@ -303,11 +317,13 @@ def read_text(text: Text, folder: Path, program: str, has_rows: bool) -> ReadTab
     record = read_record(folder / "tracks" / "split.txt")
     whole = read_tracks(folder / "tracks", record)
     check_cells(text, record)
+    check_sides(text.crs, record.said, text.options)
+    refuse_other_clocks(text, columns_read(text, record), folder, program)
     narrow, rows = narrow_places(text.columns, record, COLUMNS), rows_of(folder / "tracks", whole) if has_rows else None
     if narrow and rows is None:
         split_table(NAME, "rows", ["--records", *words_of_options(text.options)], program, str(folder))
         rows = rows_of(folder / "rows", whole)
-    notes = [*text.notes, *(text.clock or ()), *(() if rows is None else steps_said(narrow, rows, record.unit))]
+    notes = [*text.notes, *(text.clock or ()), *(() if rows is None else steps_said(narrow, rows, record))]
     fixes = fixes_of(whole, record, folder, text.options.get("tz"), text.crs, notes, lambda line: said_of(line, text))
     titles, sources = (frozenset(in_own_words(column.title, text) for column in several)
                        for several in (text.columns, columns_read(text, record)))

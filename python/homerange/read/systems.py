@@ -30,6 +30,11 @@ TITLES = {"easting": "point easting", "northing": "point northing"}
 TITLES_OF_DEGREES = {"lon": "point longitude", "lat": "point latitude"}
 
 
+def refuse_crs(text: str, kind: str = "crs") -> NoReturn:
+    """Refuses a reference system, that of an argument or of points, which have it under the same name."""
+    refuse(f"crs: {text}", kind)
+
+
 def crs_named(crs: Any, helps: str | None = None) -> Any:
     """A reference system by what names it, which has to be a plane in metres; with what helps where its coordinates are no columns."""
     try:
@@ -46,10 +51,19 @@ def crs_named(crs: Any, helps: str | None = None) -> Any:
         helps = f": a zone is named by zone={crs!r}" if isinstance(crs, str) and re.fullmatch("[0-9]{1,2} ?[NSns]", crs) else ""
         refuse(f"crs={crs!r} names no reference system{helps}", "crs")
     if found.is_geographic:
-        refuse(f"the CRS {found.name} has longitude and latitude, which are no plane coordinates: "
-               f"{helps or 'name their columns by lon and lat, without crs'}", "crs")
+        refuse_crs(f"the CRS {found.name} has longitude and latitude, which are no plane coordinates: "
+                   f"{helps or 'name their columns by lon and lat, without crs'}")
     check_plane(found, helps or HELP_NAMED)
     return None if is_local(found) else found
+
+
+def check_sides(crs: Any, said: Iterable[str], options: Mapping[str, Any]) -> None:
+    """Refuses columns titled x and y, which nobody named as a side, of a system whose own x is the northing, as surveyors have it."""
+    own = {} if crs is None else {axis.abbrev.lower(): axis.direction for axis in crs.axis_info[:2]}
+    line = next((line for line in said if line.startswith("columns: ")), "")
+    if options.get("easting") is None and own == {"x": "north", "y": "east"} and line.partition(";")[0].lower().endswith(", x, y"):
+        refuse_crs(f"x of {crs.name} is the northing, and that of a table the easting: say which it is, as by easting='y', northing='x', or "
+                   "by easting='x', northing='y'", "ambiguous")
 
 
 def is_local(crs: Any) -> bool:
@@ -60,7 +74,7 @@ def is_local(crs: Any) -> bool:
 def check_body(crs: Any) -> None:
     """Refuses a reference system of another body than the Earth."""
     if crs.ellipsoid is not None and not RADIUS[0] < crs.ellipsoid.semi_major_metre < RADIUS[1]:
-        refuse(f"the CRS {crs.name} is of another body than the Earth", "crs")
+        refuse_crs(f"the CRS {crs.name} is of another body than the Earth")
 
 
 def check_plane(crs: Any, helps: str = HELP) -> None:
@@ -68,15 +82,15 @@ def check_plane(crs: Any, helps: str = HELP) -> None:
     check_body(crs)
     named = helps.format("eastings", "northings")
     if not crs.is_projected and not crs.is_engineering:
-        refuse(f"the CRS {crs.name} is not a plane one in metres: {named}", "crs")
+        refuse_crs(f"the CRS {crs.name} is not a plane one in metres: {named}")
     odd = sorted({unit for axis in crs.axis_info[:2] for unit in other_unit(axis)})
     if odd:
-        refuse(f"the CRS {crs.name} is in {', '.join(odd)} and not in metres: {HELP_LOCAL.format('metres') if is_local(crs) else named}", "crs")
+        refuse_crs(f"the CRS {crs.name} is in {', '.join(odd)} and not in metres: {HELP_LOCAL.format('metres') if is_local(crs) else named}")
     if crs.is_projected and not has_way(crs):
         refuse_way(crs)
     check_axes(crs, helps)
     if crs.to_epsg() == 3857:
-        refuse(f"areas in the CRS {crs.name} grow away from the equator: {named}", "scale")
+        refuse_crs(f"areas in the CRS {crs.name} grow away from the equator: {named}", "scale")
 
 
 def turned_axes(crs: Any) -> list[str]:
@@ -91,7 +105,7 @@ def check_axes(crs: Any, helps: str) -> None:
     ways = turned_axes(crs)
     if ways:
         helps = HELP_LOCAL.format("eastings and northings") if is_local(crs) else helps.format(*(f"{way}ings" for way in ways))
-        refuse(f"the axes of the CRS {crs.name} go {' and '.join(ways)}, and not east and north: {helps}", "crs")
+        refuse_crs(f"the axes of the CRS {crs.name} go {' and '.join(ways)}, and not east and north: {helps}")
 
 
 def other_unit(axis: Any) -> list[str]:
@@ -115,7 +129,7 @@ def has_way(crs: Any) -> bool:
 
 def refuse_way(crs: Any) -> NoReturn:
     """Refuses a reference system that has no way to degrees."""
-    refuse(f"the CRS {crs.name} has no way to longitude and latitude that pyproj knows: name another one, such as by its code", "crs")
+    refuse_crs(f"the CRS {crs.name} has no way to longitude and latitude that pyproj knows: name another one, such as by its code")
 
 
 def options_of(crs: Any, zone: Any) -> dict[str, Any]:
@@ -131,15 +145,15 @@ def options_of(crs: Any, zone: Any) -> dict[str, Any]:
 def refuse_zone(zone: Any, crs: Any) -> None:
     """Refuses a zone that is not that of the reference system."""
     own = getattr(crs, "utm_zone", None)
-    refuse(f"the coordinates are of the zone {zone}, and the CRS {getattr(crs, 'name', crs)} is "
-           f"{'that of ' + own if own else 'none of UTM'}: give one of the two", "zone")
+    refuse_crs(f"the coordinates are of the zone {zone}, and the CRS {getattr(crs, 'name', crs)} is "
+               f"{'that of ' + own if own else 'none of UTM'}: give one of the two", "zone")
 
 
 def refuse_beside_zone(zone: str, said: Iterable[str], crs: Any) -> None:
     """Refuses a reference system beside the zone of coordinates that the program read, which said this."""
     if any(line.startswith(PROJECTED) for line in said):
-        refuse(f"longitude and latitude are read, which are projected into the zone {zone}, and crs is the reference system of easting and "
-               "northing: leave crs out, or name these by easting and northing", "zone")
+        refuse_crs(f"longitude and latitude are read, which are projected into the zone {zone}, and crs is the reference system of easting "
+                   "and northing: leave crs out, or name these by easting and northing", "zone")
     refuse_zone(zone, crs)
 
 
@@ -206,7 +220,7 @@ def scales_said(crs: Any, zone: str | None, middles: Mapping[str, tuple[float, f
     scales = {name: scales_at(*middle) for name, middle in middles.items()}
     lost = next((name for name, own in scales.items() if not all(map(isfinite, own))), None)
     if lost is not None:
-        refuse(f"the fixes of {lost} have no place on this grid: {HELP_SCALE}", "scale")
+        refuse_crs(f"the fixes of {lost} have no place on this grid: {HELP_SCALE}", "scale")
     return [line for what in Scales._fields for line in worst_said(what, {name: getattr(own, what) - 1 for name, own in scales.items()})]
 
 
@@ -217,5 +231,5 @@ def worst_said(what: str, away: Mapping[str, float]) -> list[str]:
     text = (f"lengths of {name} differ by up to {share} by direction on this grid" if what == "lengths" else
             f"areas of {name} are {share} too {'great' if worst > 0 else 'small'} on this grid")
     if abs(worst) > getattr(REFUSED, what):
-        refuse(f"{text}: {HELP_SCALE}", "scale")
+        refuse_crs(f"{text}: {HELP_SCALE}", "scale")
     return [text] if abs(worst) > getattr(TOLD, what) else []

@@ -30,10 +30,11 @@ TIMES = {"second", "timestamp", "t-", "date", "time", "datetime", "date-time", "
 
 
 class Column(NamedTuple):
-    """A column of the text."""
+    """A column of the text, with its own title where it is a level of the index that got another."""
 
     title: str
     values: pandas.Series
+    own: str | None = None
 
 
 class Text(NamedTuple):
@@ -122,11 +123,12 @@ def levels_of(frame: pandas.DataFrame, options: Mapping[str, Any]) -> list[Colum
     for at, name in enumerate(frame.index.names):
         values = frame.index.get_level_values(at).to_series(index=pandas.RangeIndex(len(frame)))
         title = str(name) if name is not None else f"level_{at}" if frame.index.nlevels > 1 else INDEX
+        own = None
         if has_times(values) and (name is None or plain(title) not in TIMES) and title not in named:
-            title = "datetime"
+            title, own = "datetime", title
         elif title == INDEX and title not in named:
             continue
-        found.append(Column(title, values))
+        found.append(Column(title, values, own))
     return found
 
 

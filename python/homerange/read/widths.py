@@ -38,19 +38,18 @@ def narrow_places(columns: Iterable[Column], record: Record, taken: str) -> list
     return [column for column in columns if f", {one_line(column.title)}," in titles and narrowest(column.values) is not None]
 
 
-def steps_said(columns: Iterable[Column], rows: NDArray[numpy.int64], unit: str) -> list[str]:
+def steps_said(columns: Iterable[Column], rows: NDArray[numpy.int64], record: Record) -> list[str]:
     """What is said of such columns whose numbers, in the rows of fixes, lie farther from each other than the unit."""
-    least = 1 / UNITS[unit].per_metre
-    found = ((column, step_of(column.values.iloc[rows])) for column in columns)
+    least = 1 / UNITS[record.unit].per_metre
+    size = DEGREE if any(line.startswith("longitude and latitude are ") for line in record.said) else 1
+    found = ((column, size * step_of(column.values.iloc[rows])) for column in columns)
     return [f"numbers of {column.title} have {8 * numpy.dtype(narrowest(column.values)).itemsize} bits, and may be {step:.2g} m from the "
             "places that were measured" for column, step in found if step > least]
 
 
 def step_of(values: pandas.Series) -> float:
-    """How far the greatest of coordinates lies from the next, in metres; they are degrees or metres by their size."""
-    most = numpy.abs(numpy.asarray(values, dtype="float64")).max(initial=0)
-    step = float(numpy.spacing(narrowest(values)(most)))
-    return step * DEGREE if most <= 360 else step
+    """How far the greatest of coordinates lies from the next."""
+    return float(numpy.spacing(narrowest(values)(numpy.abs(numpy.asarray(values, dtype="float64")).max(initial=0))))
 
 
 def missing_as_written(na: Any, columns: Sequence[Column]) -> Any:

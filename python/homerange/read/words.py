@@ -117,6 +117,10 @@ def bound_of(value: Any, option: str) -> str:
         return value
     if type(value).__name__ == "datetime64" and value == value:
         return str(value)
+    if type(value).__name__ in ("NaTType", "datetime64"):
+        refuse(f"{option} is missing, and a moment is wanted: leave {option} out where none is meant")
+    if hasattr(value, "__len__") and not isinstance(value, (*BYTES, Mapping)):
+        refuse(f"{option} has {len(value)} values, and one moment is wanted, such as '2024-05-01'")
     if not isinstance(value, date) or value != value:
         refuse(f"{option}={value!r} is neither a text such as '2024-05-01' nor a date")
     if isinstance(value, datetime) and value.utcoffset() is not None:
@@ -146,6 +150,8 @@ def word_of(word: Any, option: str) -> str:
 def columns_of(value: Any, option: str) -> str:
     """The title of a column, or several."""
     several = [value] if isinstance(value, str) else value
+    if isinstance(value, date) or hasattr(value, "dtype"):
+        refuse(f"{option} has values, and the title of their column is wanted, in quotes, as by {option}='COLUMN'")
     if not isinstance(several, (list, tuple)) or not all(isinstance(title, str) for title in several):
         refuse(f"{option}={value!r} is no name of a column: a text, or several, is wanted")
     return value if isinstance(value, str) else listed(several, option)

@@ -122,7 +122,8 @@ test_that("moments are the time whatever their title says", {
   table <- data.frame(animal = "a", easting = 562000 + 0:3, northing = 5134000)
   for (title in c("timestamp_utc", "time_local", "UTC_datetime", "local time")) {
     for (tz in c("UTC", "Asia/Tokyo")) {
-      typed <- `names<-`(cbind(table, times), c(names(table), title))
+      own <- `attr<-`(times, "tzone", if (grepl("local", title)) "Africa/Nairobi" else "UTC")
+      typed <- `names<-`(cbind(table, own), c(names(table), title))
       for (time in list(NULL, title)) {
         fixes <- read_quietly(typed, tz = tz, time = time)
         expect_identical(as.numeric(fixes$time), as.numeric(times))
@@ -130,7 +131,7 @@ test_that("moments are the time whatever their title says", {
       }
     }
   }
-  expect_identical(nrow(read_quietly(cbind(table, local = times), since = times[2])), 3L)
+  expect_identical(nrow(read_quietly(cbind(table, moment = times), since = times[2])), 3L)
   expect_identical(as.numeric(read_quietly(cbind(table, second = times))$time), as.numeric(times))
   text <- `names<-`(cbind(table, format(times)), c(names(table), "local time"))
   expect_error(read_quietly(text), class = "homerange_columns_error")

@@ -282,3 +282,44 @@ test_that("groups that have lost digits, or are no text, are refused", {
   refused(rep(c(Inf, 1), 40), "row 1: by has a group that is 'inf', a number that is not whole: make it text", "homerange_option_error")
   refused(rep(c("a\xe4", "a"), 40), "row 1: by has a group that is 'a<e4>', which is no text in UTF-8: mend it", "homerange_option_error")
 })
+
+test_that("a period that a file has as a column is said to be of the calendar", {
+  skip_without_program()
+  table <- data.frame(animal = "a", time = "2024-03-01 08:00:00", easting = 562000 + c(0, 200, 200, 0), northing = 5134000 + c(0, 0, 200, 200))
+  table$time <- sprintf("2024-03-01 %02d:00:00", 1:4)
+  wanted <- c(season = "2024 Mar-May", month = "2024-03", year = "2024")
+  for (by in names(wanted)) {
+    path <- file.path(local_folder(), "own.csv")
+    utils::write.csv(`names<-`(cbind(table, "rut"), c(names(table), by)), path, row.names = FALSE)
+    said <- paste0("ranges are by the ", by, " of the calendar, and not by the column '", by, "' of the file, which is not kept: read the file ",
+                   "before to take that")
+    for (own in list(path, quietly(read_fixes(path)))) {
+      expect_message(ranges <- home_range(own, 100, by = by), said, fixed = TRUE, class = "homerange_guessed_note")
+      expect_identical(summary(ranges)$group, wanted[[by]])
+    }
+    utils::write.csv(cbind(table, note = "rut"), path, row.names = FALSE)
+    expect_false(any(grepl("of the calendar", capture_messages(home_range(path, 100, by = by)))))
+    expect_error(quietly(home_range(`names<-`(cbind(table, "rut"), c(names(table), by)), 100, by = by)),
+                 paste0("by = \"", by, "\" is a period of the calendar, and a column too"), class = "homerange_option_error")
+  }
+})
+
+test_that("values of a table that was sorted since are refused", {
+  skip_without_program()
+  table <- data.frame(animal = "a", time = sprintf("2024-03-01 %02d:00:00", c(3, 1, 4, 2)), easting = 562000 + c(0, 200, 200, 0),
+                      northing = 5134000 + c(0, 0, 200, 200), g = c("u", "v", "v", "u"))
+  sorted <- table[order(table$time), ]
+  said <- "by: the values are those of the column 'g' of the table in another order than that of its rows: name it, as by by = \"g\""
+  plain <- `row.names<-`(sorted, NULL)  # as dplyr leaves them
+  values <- table$g
+  for (call in list(quote(home_range(sorted, 100, by = table$g)), quote(home_range(sorted, 100, by = values)),
+                    quote(home_range(table[order(table$time), ], 100, by = table[["g"]])), quote(home_range(plain, 100, by = table$g)),
+                    quote(home_range(sorted, 100, by = factor(table$g))))) {
+    expect_error(quietly(eval(call)), said, fixed = TRUE, class = "homerange_option_error")
+  }
+  wanted <- summary(quietly(home_range(table, 100, by = "g")))
+  for (call in list(quote(home_range(sorted, 100, by = "g")), quote(home_range(sorted, 100, by = sorted$g)), quote(home_range(table, 100, by = values)),
+                    quote(home_range(plain, 100, by = plain$g)), quote(home_range(sorted, 100, by = toupper(sorted$g))))) {
+    expect_identical(summary(quietly(eval(call)))$hectares, wanted$hectares)
+  }
+})

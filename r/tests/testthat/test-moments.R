@@ -67,3 +67,47 @@ test_that("groups may be moments of any class, and what has labels is said to ha
   labelled <- structure(rep_len(1:2, nrow(fixes)), labels = c(den = 1L, open = 2L), class = c("haven_labelled", "vctrs_vctr", "integer"))
   expect_error(home_range(fixes, by = labelled, quiet = TRUE), "as by haven::as_factor", class = "homerange_option_error")
 })
+
+test_that("moments labelled UTC whose title says another clock are refused", {
+  skip_without_split()
+  clock <- as.POSIXct("2024-05-01 08:00", tz = "UTC") + 3600 * 0:3
+  words <- c(local_time = "local", time_cet = "cet", Ortszeit = "Ortszeit", "Zeit (MEZ)" = "MEZ")
+  in_zone("UTC")
+  for (title in names(words)) {
+    table <- data.frame(animal = "a", time = clock, easting = 500000 + 1:4, northing = 5e6 + c(1, 5, 2, 9))
+    names(table)[2] <- title
+    said <- paste0("'", title, "' says ", words[[title]], ", and its moments are labelled UTC: if they are, name tz = \"UTC\", and else give them ",
+                   "the zone of their clock, as by as.POSIXct(format(x[[\"", title, "\"]]), tz = \"Europe/Ljubljana\")")
+    for (own in list(clock, as.POSIXlt(clock), `attr<-`(clock, "tzone", NULL), `attr<-`(clock, "tzone", "GMT"))) {
+      table[[title]] <- own
+      for (given in list(list(), list(tz = "Europe/Vienna"), list(time = title), list(time = title, tz = "Europe/Vienna"))) {
+        expect_error(quietly(do.call(read_fixes, c(list(table), given))), said, fixed = TRUE, class = "homerange_columns_error")
+      }
+      expect_identical(as.numeric(quietly(read_fixes(table, tz = "UTC"))$time), as.numeric(clock))
+    }
+    table[[title]] <- as.POSIXct(format(table[[title]]), tz = "Europe/Ljubljana")
+    expect_identical(as.numeric(quietly(read_fixes(table))$time), as.numeric(clock) - 7200)
+    names(table)[2] <- "time_utc"
+    table$time_utc <- clock
+    for (tz in list(NULL, "Europe/Vienna")) expect_identical(as.numeric(quietly(read_fixes(table, tz = tz))$time), as.numeric(clock))
+  }
+})
+
+test_that("fixes that write.csv writes are read as they were", {
+  skip_without_split()
+  times <- as.POSIXct("2024-03-30 22:00", tz = "UTC") + 86400 * 0:3  # clocks are moved on the second day
+  for (zone in c("UTC", "Europe/Vienna", "America/St_Johns", "Asia/Kathmandu")) {
+    table <- data.frame(animal = "a", time = times, easting = c(500000, 500100, 600000, 500001), northing = 5300000 + c(0, 1, 5, 2))
+    fixes <- quietly(read_fixes(table, tz = zone, zone = "33N"))
+    path <- file.path(local_folder(), "fixes.csv")
+    utils::write.csv(fixes, path, row.names = FALSE)
+    for (own in list(path, utils::read.csv(path))) {
+      again <- quietly(read_fixes(own, tz = zone, zone = "33N"))
+      expect_identical(as.data.frame(again), as.data.frame(fixes))
+    }
+    expect_identical(class(fixes$time), c("POSIXct", "POSIXt"))
+  }
+  changed <- fixes
+  changed[1, "easting"] <- 500002
+  expect_identical(quietly(read_fixes(changed))$easting, c(500002, 500100, 600000, 500001))
+})

@@ -120,7 +120,11 @@ test_that("what has another remedy than numbers is told it", {
   expect_match(refusal(time = as.difftime(2:4, units = "days")), "as.numeric(x, units = \"secs\") makes seconds of it", fixed = TRUE)
   expect_match(refusal(animal = structure(c(1, 1, 1), class = c("haven_labelled", "vctrs_vctr", "double"))), "haven::as_factor(x)", fixed = TRUE)
   expect_error(quietly(home_range(unname(table))), "the data frame has no titles: names(x) <- ", fixed = TRUE, class = "homerange_columns_error")
-  expect_error(read_fixes("a.RDS"), "a.RDS is a file of R: read what it has", class = "homerange_text_error")
+  readers_wanted <- c(a.RDS = "readRDS", b.geojson = "sf::st_read", c.SHP = "sf::st_read", d.parquet = "arrow::read_parquet", e.feather = "arrow::read_feather")
+  for (file in names(readers_wanted)) {
+    expect_error(read_fixes(file), paste0(file, " is no text with a line of titles: read what it has, as by read_fixes(", readers_wanted[[file]], "(..))"),
+                 fixed = TRUE, class = "homerange_text_error")
+  }
   skip_if_not_installed("units")
   expect_match(refusal(easting = units::set_units(c(1, 2, 3), "rad")), "units::set_units(x, \"degrees\") makes degrees of it", fixed = TRUE)
   skip_if_not_installed("sf")
@@ -128,4 +132,41 @@ test_that("what has another remedy than numbers is told it", {
   shapes$geometry <- sf::st_as_sf(table, coords = c("easting", "northing"))$geometry
   expect_error(quietly(read_fixes(shapes)), "the column 'geometry' has shapes, and the table is none of sf: sf::st_as_sf(x) makes one of it",
                fixed = TRUE, class = "homerange_columns_error")
+})
+
+test_that("what is no table, and columns of further classes, are refused with the call that helps", {
+  skip_without_split()
+  table <- data.frame(animal = "a", time = as.POSIXct("2024-05-01", tz = "UTC") + 3600 * 0:3, easting = 500000 + c(0, 100, 200, 0), northing = 5300000 + 0:3)
+  refused <- function(x, text) expect_error(quietly(read_fixes(x)), text, fixed = TRUE, class = "homerange_error")
+  if (requireNamespace("sf", quietly = TRUE)) {
+    refused(sf::st_as_sf(table, coords = c("easting", "northing"))$geometry, "make it one, as by sf::st_sf(animal = .., time = .., geometry = x)")
+  }
+  if (requireNamespace("terra", quietly = TRUE)) {
+    points <- terra::vect(as.matrix(table[c("easting", "northing")]), type = "points", atts = table[c("animal", "time")], crs = "EPSG:32633")
+    refused(points, "a SpatVector is neither a path nor a data frame with a row for each fix: make it one, as by sf::st_as_sf(x)")
+    expect_identical(quietly(read_fixes(sf::st_as_sf(points)))$easting, table$easting)
+  }
+  if (requireNamespace("xts", quietly = TRUE)) {
+    series <- xts::xts(as.matrix(table[c("easting", "northing")]), order.by = table$time)
+    refused(series, "make it one, as by data.frame(time = zoo::index(x), zoo::coredata(x))")
+    helped <- data.frame(time = zoo::index(series), zoo::coredata(series))
+    expect_identical(quietly(read_fixes(helped))[c("time", "easting")], quietly(read_fixes(table[-1]))[c("time", "easting")])
+  }
+  if (requireNamespace("nanotime", quietly = TRUE)) {
+    nano <- transform(table, time = nanotime::as.nanotime(table$time))
+    refused(nano, "time is of the class nanotime, of which no cell is known: as.POSIXct(x) makes times of it")
+    nano$time <- as.POSIXct(nano$time, tz = "UTC")
+    expect_identical(quietly(read_fixes(nano))$time, table$time)
+  }
+})
+
+test_that("values in place of a title, and several moments in place of one, are refused with what is wanted", {
+  skip_without_split()
+  table <- data.frame(animal = "a", time = as.POSIXct("2024-05-01", tz = "UTC") + 3600 * 0:3, easting = 500000 + c(0, 100, 200, 0), northing = 5300000 + 0:3)
+  refused <- function(text, ...) expect_error(quietly(read_fixes(table, ...)), text, fixed = TRUE, class = "homerange_option_error")
+  for (own in list(table$time, as.Date("2024-05-01"), factor("x"), 1:4)) {
+    refused("time has values, and the title of their column is wanted, in quotes, as by time = \"COLUMN\"", time = own)
+  }
+  refused("since has 2 values, and one moment is wanted, such as \"2024-05-01\"", since = as.Date(c("2024-05-01", "2024-05-02")))
+  refused("until is missing, and a moment is wanted: leave until out where none is meant", until = as.POSIXct(NA))
 })

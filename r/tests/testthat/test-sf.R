@@ -138,7 +138,7 @@ test_that("a system of a site in metres is one of no known place, and one in fee
   file <- "f <- tempfile(fileext = '.gpkg'); sf::st_write(s, f, quiet = TRUE); x <- sf::st_read(f, quiet = TRUE)"
   expect_identical(utils::tail(ends_well(file), 1), metres)
   feet <- ends_well(paste0("x <- sf::st_set_crs(s, '", site("\"foot\",0.3048"), "')"))
-  expect_match(feet, "x: the unit of the coordinates is not the metre but foot", all = FALSE)
+  expect_match(feet, "crs: the unit of the coordinates is not the metre but foot", all = FALSE)
 })
 
 test_that("the CRS of columns is that of the argument", {
@@ -218,17 +218,17 @@ expect_turned <- function(points, crs, text, columns, zone) {
 test_that("axes that go west or south are refused", {
   skip_without_split()
   skip_if_not_installed("sf")
-  expect_turned(lynx_at(19.5, -33, 2048), 2048, "the axes of the CRS Hartebeesthoek94 / Lo19 go west and south", "WESTING, SOUTHING", 32734)
-  expect_turned(lynx_at(15, 50, 5513), 5513, "the axes of the CRS S-JTSK / Krovak go south and west", "SOUTHING, WESTING", 32633)
+  expect_turned(lynx_at(19.5, -33, 2048), 2048, "crs: the axes of the CRS Hartebeesthoek94 / Lo19 go west and south", "WESTING, SOUTHING", 32734)
+  expect_turned(lynx_at(15, 50, 5513), 5513, "crs: the axes of the CRS S-JTSK / Krovak go south and west", "SOUTHING, WESTING", 32633)
   own <- "+proj=tmerc +lon_0=-19 +axis=wnu +ellps=GRS80"
-  expect_turned(lynx_at(-19, 65, own), own, "the axes of the CRS unknown go west and north", "WESTING, NORTHING", 32627)
+  expect_turned(lynx_at(-19, 65, own), own, "crs: the axes of the CRS unknown go west and north", "WESTING, NORTHING", 32627)
   # Around a pole both axes go south; eastings may be below 0.
   expect_identical(nrow(quietly(read_fixes(lynx_at(15, 71, 3995)))), 5L)
   expect_lt(max(quietly(read_fixes(lynx_at(15, 50, 5514)))$easting), 0)
   site <- "ENGCRS[\"plant\",EDATUM[\"plant\"],CS[Cartesian,2],AXIS[\"y\",west],AXIS[\"x\",north],LENGTHUNIT[\"metre\",1]]"
   points <- sf::st_set_crs(sf::st_set_crs(lynx_at(19, 50, 32634), NA), sf::st_crs(site))
   for (call in list(quote(read_fixes(points)), quote(read_fixes(in_columns(points), crs = site)))) {
-    expect_error(quietly(eval(call)), paste("^the axes of the CRS plant go west and north, and not east and north: make eastings and northings",
+    expect_error(quietly(eval(call)), paste("^crs: the axes of the CRS plant go west and north, and not east and north: make eastings and northings",
                                             "of its coordinates, which need no CRS$"), class = "homerange_crs_error")
   }
 })
@@ -265,7 +265,7 @@ test_that("a grid on which lengths differ by direction is refused or said", {
   refused <- list(list("EPSG:6933", 16, 48, "67.18"), list("ESRI:54009", 31, -24, "21.42"), list("EPSG:8857", 16, 48, "18.89"))
   for (one in refused) {
     expect_error(read_fixes(lynx_at(one[[2]], one[[3]], one[[1]]), quiet = TRUE),
-                 paste0("^lengths of lynx differ by up to ", one[[4]], " % by direction on this grid: take a zone or a reference system of the place$"),
+                 paste0("^crs: lengths of lynx differ by up to ", one[[4]], " % by direction on this grid: take a zone or a reference system of the place$"),
                  class = "homerange_scale_error")
   }
   expect_identical(lines_of(lynx_at(16.4, 48.2, 3035)), character())
@@ -348,4 +348,40 @@ test_that("points of fixes are refused as ranges of them are", {
     expect_identical(sf::st_coordinates(sf::st_as_sf(with_side(same))), whole)
   }
   expect_identical(sf::st_is_empty(sf::st_as_sf(with_side(replace(fixes$easting, 3, NA)))), seq_len(8) == 3)
+})
+
+# Metres from the equator to a latitude on GRS80, by the integral of the radius of the meridian.
+arc_to <- function(latitude) {
+  square <- 0.0066943800229
+  radius <- function(angle) 6378137 * (1 - square) / (1 - square * sin(angle)^2)^1.5
+  stats::integrate(radius, 0, latitude * pi / 180, rel.tol = 1e-12)$value
+}
+
+test_that("points of systems whose x is the northing", {
+  skip_without_program()
+  skip_if_not_installed("sf")
+  systems <- list(list(2180, 19, 52, 0.9993, 5300000, "ETRF2000-PL / CS92"), list(3059, 24, 57, 0.9996, 6000000, "LKS92 / Latvia TM"))
+  for (one in systems) {
+    points <- sf::st_as_sf(data.frame(animal = "a", timestamp = as.POSIXct("2024-05-01", tz = "UTC") + 3600 * 0:3, lon = one[[2]] + c(0, 4, -3, 1) / 1000,
+                                      lat = one[[3]] + c(0, 1, 6, -5) / 1000), coords = c("lon", "lat"), crs = 4326)
+    moved <- sf::st_transform(points, one[[1]])
+    fixes <- quietly(read_fixes(moved))
+    expect_identical(c(fixes$easting[1], fixes$northing[1]), c(500000, round(one[[4]] * arc_to(one[[3]]) - one[[5]])))
+    box <- as.numeric(sf::st_bbox(sf::st_transform(sf::st_as_sf(quietly(home_range(fixes, 100))), 4326)))
+    expect_equal(box, c(one[[2]] - 0.003, one[[3]] - 0.005, one[[2]] + 0.004, one[[3]] + 0.006), tolerance = 1e-6)
+    table <- cbind(sf::st_drop_geometry(moved), x = sf::st_coordinates(moved)[, 1], y = sf::st_coordinates(moved)[, 2])
+    path <- tempfile(fileext = ".csv")
+    utils::write.csv(transform(table, x = sprintf("%.3f", x), y = sprintf("%.3f", y)), path, row.names = FALSE)
+    said <- paste0("crs: x of ", one[[6]], " is the northing, and that of a table the easting: say which it is, as by easting = \"y\", northing = \"x\", ",
+                   "or by easting = \"x\", northing = \"y\"")
+    for (own in list(table, stats::setNames(table, toupper(names(table))), path)) {
+      expect_error(quietly(read_fixes(own, crs = one[[1]])), said, fixed = TRUE, class = "homerange_ambiguous_error")
+    }
+    expect_identical(quietly(read_fixes(table, crs = one[[1]], easting = "x", northing = "y"))$easting, fixes$easting)
+    names(table)[3:4] <- c("y", "x")
+    expect_identical(quietly(read_fixes(table, crs = one[[1]], easting = "y", northing = "x"))$easting, fixes$easting)
+    moved <- sf::st_coordinates(sf::st_transform(points, 3035))
+    table[c("x", "y")] <- list(moved[, 1], moved[, 2])
+    expect_identical(quietly(read_fixes(table, crs = 3035))$easting, round(unname(moved[, 1])))
+  }
 })

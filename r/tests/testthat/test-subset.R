@@ -154,3 +154,40 @@ test_that("animals are chosen by names, places and truths, and by nothing else",
   }
   expect_identical(report[[2]], report[2])
 })
+
+test_that("what sf and dplyr take away of points of fixes is counted as left out", {
+  skip_without_program()
+  skip_if_not_installed("sf")
+  table <- data.frame(animal = rep(c("a", "b"), each = 4), time = as.POSIXct("2024-05-01", tz = "UTC") + 3600 * 0:7,
+                      easting = 500000 + c(0, 100, 200, 0, 300, 50, 20, 60), northing = 5300000 + c(0, 10, 50, 100, 200, 70, 30, 20))
+  fixes <- quietly(read_fixes(table, zone = "33N"))
+  points <- sf::st_as_sf(fixes)
+  place <- sf::st_as_sfc(sf::st_bbox(c(xmin = 499990, ymin = 5299990, xmax = 500150, ymax = 5300150), crs = 32633))
+  field <- sf::st_sf(field = "own", geometry = place)
+  is_within <- table$easting < 500150 & table$northing < 5300150
+  chosen <- suppressWarnings(list(
+    points[place, ], points[is_within, ], subset(points, is_within), sf::st_crop(points, place), sf::st_intersection(points, field),
+    sf::st_intersection(points, place), sf::st_join(points, field, left = FALSE), sf::st_filter(points, field), sf::st_crop(fixes, place),
+    sf::st_intersection(fixes, field), sf::st_join(fixes, field, left = FALSE), sf::st_filter(fixes, field), sf::st_drop_geometry(sf::st_crop(points, place)),
+    sf::st_transform(sf::st_crop(points, place), 4326), sf::st_crop(sf::st_transform(sf::st_transform(points, 4326), 32633), place)))
+  if (requireNamespace("dplyr", quietly = TRUE)) {
+    keys <- fixes[is_within, c("animal", "time")]
+    chosen <- c(chosen, list(dplyr::slice(points, which(is_within)), dplyr::filter(points, is_within), dplyr::arrange(points[is_within, ], northing),
+                             dplyr::inner_join(points, as.data.frame(keys), by = names(keys)), dplyr::distinct(points[is_within, ])))
+  }
+  wanted <- as.numeric(table(table$animal) - table(table$animal[is_within]))
+  for (own in chosen) {
+    ranges <- quietly(home_range(own, 100))
+    expect_identical(summary(ranges)$left_out, wanted)
+    expect_identical(homerange_left_out(ranges)$fixes, wanted)
+  }
+  west <- sf::st_as_sfc(sf::st_bbox(c(xmin = 499990, ymin = 5299990, xmax = 500030, ymax = 5300150), crs = 32633))
+  east <- suppressWarnings(sf::st_difference(points, west))
+  expect_identical(summary(quietly(home_range(east, 100)))[c("fixes", "left_out")], list2DF(list(fixes = c(2, 3), left_out = c(2, 1))), ignore_attr = TRUE)
+  bound <- quietly(home_range(rbind(points[1:3, ], points[6:8, ]), 100))
+  expect_identical(summary(bound)[c("fixes", "left_out")], list2DF(list(fixes = c(3, 3), left_out = c(1, 1))), ignore_attr = TRUE)
+  named <- sf::st_join(points, sf::st_sf(animal = "x", geometry = place), left = FALSE)
+  expect_message(try(read_fixes(named), silent = TRUE), "fixes without their column 'animal' are read as a data frame", class = "homerange_guessed_note")
+  moved <- quietly(home_range(transform(sf::st_transform(points[is_within, ], 4326), tag = "c"), 100, animal = "tag"))
+  expect_identical(homerange_left_out(moved), list2DF(list(animal = "", reason = "chosen", fixes = sum(wanted))), ignore_attr = TRUE)
+})
