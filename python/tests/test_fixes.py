@@ -389,3 +389,13 @@ def test_points_are_refused_as_ranges_are(splitter):
     for same in (fixes.astype({"easting": str}), fixes.convert_dtypes(), fixes.astype({"northing": object})):
         assert geopandas.GeoSeries(same.points().geometry).geom_equals(fixes.points().geometry).all()
     assert fixes.iloc[:0].points().empty
+
+
+@pytest.mark.parametrize("name, value", [("every", "2h"), ("max_speed", 400), ("since", "1970-01-01"), ("until", "2024-01-01")])
+def test_options_of_times_of_fixes_that_have_none(splitter, name, value):
+    with warnings.catch_warnings():
+        warnings.simplefilter("ignore")
+        fixes = read_fixes(pandas.DataFrame({"animal": "a", "easting": [500000, 500010, 500020], "northing": [5000000, 5000030, 5000010]}))
+        with pytest.raises(FrameError) as caught:
+            read_fixes(fixes, **{name: value})
+    assert str(caught.value) == f"{name}: these fixes have no time, but the order of rows: name its column, by time, where the table is read"

@@ -82,6 +82,41 @@ def test_hours_with_decimals(splitter):
     assert read_fixes(frame, time="moment")["time"].tolist() == (DAY + pandas.to_timedelta([30, 75, 1425], unit="min")).tolist()
 
 
+@pytest.mark.parametrize("hours, minutes, makes, words", [
+    ([30, 100, 1330], [30, 60, 810], "frame['hour'] = frame['hour'].astype('Int64').astype('string').str.zfill(4)", "four"),
+    (["0030", "0100", "1330"], [30, 60, 810], "frame['hour'] = frame['hour'].astype('string').str.zfill(4)", "four"),
+    ([3000, 10000, 133000], [30, 60, 810], "frame['hour'] = frame['hour'].astype('Int64').astype('string').str.zfill(6)", "six")])
+def test_clocks_under_a_title_of_hours(splitter, hours, minutes, makes, words):
+    frame = PLACES.assign(date="2024-03-01", hour=hours)
+    form = "%Y-%m-%d %H%M" if words == "four" else "%Y-%m-%d %H%M%S"
+    said = (f"column 5 'hour' has hours, which the days of the time have not: write clocks of {words} digits, as by {makes}, and join them, as by "
+            f"time='date,hour', time_format='{form}', or remove it")
+    assert refusal(frame) == (said, "columns")
+    exec(makes, {"frame": frame})
+    assert read_fixes(frame, time="date,hour", time_format=form)["time"].tolist() == (DAY + pandas.to_timedelta(minutes, unit="min")).tolist()
+
+
+def test_parts_of_a_day_under_a_title_of_hours(splitter):
+    frame = PLACES.assign(date="2024-03-01", hour=[0.020833333, 0.25, 0.5625])
+    moment = "pandas.to_datetime(frame['date']) + pandas.to_timedelta(frame['hour'], unit='D').dt.round('s')"
+    assert refusal(frame)[0] == ("column 5 'hour' has hours, which the days of the time have not: make moments of both, as by "
+                                 f"{moment}, in a column that time names alone, or remove it")
+    frame["moment"] = eval(moment, {"pandas": pandas, "frame": frame})
+    assert read_fixes(frame, time="moment")["time"].tolist() == (DAY + pandas.to_timedelta([30, 360, 810], unit="min")).tolist()
+    said = "column 5 'hour' has hours, which the days of the time have not: write them as clocks, such as 00:30, and join them, as by time='date,hour', or remove it"
+    assert refusal(frame.assign(hour=["1h30", "2h30", "3h30"]))[0] == said
+
+
+def test_clocks_to_which_one_day_was_given(splitter):
+    frame = PLACES.assign(date=["2024-03-01", "2024-03-02", "2024-03-03"], clock=pandas.to_datetime(["2026-11-30 00:30", "2026-11-30 09:00", "2026-11-30 13:30"]))
+    makes = "frame['clock'] = frame['clock'].dt.time"
+    assert refusal(frame)[0] == (f"column 5 'clock' has days with clocks, and all of one day: if they are clocks, make times of the day of them, as by {makes}, "
+                                 "and name both, as by time='DAY,clock'; or remove it")
+    assert refusal(frame, time="date,clock")[0].endswith(": clock has clocks on one day: make times of the day of it, as by .dt.time")
+    exec(makes, {"frame": frame})
+    assert read_fixes(frame, time="date,clock")["time"].tolist() == (DAY + pandas.to_timedelta([30, 1980, 3690], unit="min")).tolist()
+
+
 @pytest.mark.parametrize("cells, cell, what", [
     (["500010,5", "500090,25", None], "500010,5", "if its comma stands before decimals, make"),
     (["+500010.5", "500090.25", None], "+500010.5", "make"), ([" 500010.5", "500090.25", None], " 500010.5", "make"),

@@ -316,7 +316,7 @@ def test_what_the_record_says_otherwise_is_refused(folder, tmp_path):
 def test_what_is_no_system_of_a_report(files):
     report = report_of(files)
     for crs in (4326, 2263, 3857):
-        with pytest.raises(FrameError, match="^(the CRS|areas in the CRS) .*: name that of the coordinates of the report, which are eastings and northings in metres$"):
+        with pytest.raises(FrameError, match="^crs: (the CRS|areas in the CRS) .*: name that of the coordinates of the report, which are eastings and northings in metres$"):
             read_report(report, crs=crs)
     for none in (None, b"x", 5):
         with pytest.raises(FrameError, match=r" are not several paths, such as \['fox.csv'\]: leave files out where there are none$"):

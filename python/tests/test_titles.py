@@ -15,7 +15,7 @@ OF_DOUBT = ("ODD_CLASSES", "ARGOS_CLASSES", "SENSOR", "SENSOR_NUMBER", "UTM_ZONE
 
 def titles(*names):
     """The titles that constants of the program have, as they are compared."""
-    text = "".join((TOP / "crates" / path).read_text("utf-8") for path in ("split_titles/src/usual.rt", "split_chain/src/passed.rt"))
+    text = "".join((TOP / "crates" / path).read_text("utf-8") for path in ("split_titles/src/usual.rt", "split_chain/src/passed.rt", "split_chain/src/systems.rt"))
     constants = dict(re.findall(r"const ([A-Z_]+): [^=]+ =([^;]+);", text))
     values = [re.sub(r"\b[A-Z_]+\b", lambda own: constants.get(own[0], own[0]), constants[name]) for name in names]
     return {plain(title) for value in values for title in re.findall('"([^"]+)"', value)}
@@ -33,7 +33,7 @@ def test_titles_of_marks_and_of_doubt_are_those_of_the_program():
     assert MARKS == titles(*OF_MARKS) == titles_in_r("titles_of_marks")
     assert JUDGED == titles(*OF_DOUBT) == titles_in_r("titles_of_doubt")
     assert WORDS_OF_MARKS == titles("MARK_WORDS") == titles_in_r("words_of_marks")
-    assert WORDS_OF_GRIDS == titles("GRID_WORDS", "SYSTEM_WORDS") == titles_in_r("words_of_grids")
+    assert WORDS_OF_GRIDS == titles("ZONE_WORDS", "CODE_WORDS") == titles_in_r("words_of_grids")
     assert WORDS_OF_SATELLITES == titles("SATELLITE_WORDS") == titles_in_r("words_of_satellites")
     assert NO_MARKS == titles("NO_MARKS") == titles_in_r("no_marks")
 

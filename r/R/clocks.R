@@ -73,25 +73,43 @@ are_midnights <- function(times, zone) {
 
 names_of_utc <- "^(Etc/)?(UTC|GMT[+-]?0?|UCT|Zulu|Universal|Greenwich)$"
 
-# Refuses columns of moments of UTC that were read, whose title says another clock.
+# Refuses columns of moments that were read, whose title says another clock: such of UTC, and such that have no zone, and so that of the session.
 refuse_other_clocks <- function(frame, titles, folder) {
-  tz <- frame$given$tz
-  if (grepl(names_of_utc, c(tz, "")[1])) return(invisible())
-  for (title in if (is.null(tz)) intersect(titles, frame$renamed[["from"]]) else titles) {
-    is_utc <- grepl(names_of_utc, zone_of_times(as.POSIXct(as.list(frame$x)[[title]])))
-    said <- if (is_utc) said_of_clock(title, folder)
-    if (!is.null(said)) {
-      refuse("columns", said, ", and its moments are labelled UTC: if they are, name tz = \"UTC\", and else give them the zone of their ",
-             "clock, as by as.POSIXct(format(x[[\"", title, "\"]]), tz = \"Europe/Ljubljana\")")
+  for (title in titles) {
+    column <- as.POSIXct(as.list(frame$x)[[title]])
+    zone <- zone_of_times(column)
+    if (grepl(names_of_utc, zone)) {
+      if (!grepl(names_of_utc, c(frame$given$tz, "")[1])) refuse_labelled(frame, title, folder)
+    } else if (!has_zone(column)) {
+      refuse_of_session(title, zone, folder)
     }
   }
 }
 
-# What the program says of the title of a column of times, if that is another clock than that of UTC.
-said_of_clock <- function(title, folder) {
+# Refuses moments labelled UTC, whose title says another clock, if the program has not seen that title.
+refuse_labelled <- function(frame, title, folder) {
+  if (is.null(frame$given$tz) && !title %in% frame$renamed[["from"]]) return(invisible())
+  said <- said_of_clock(title, folder, "T00:00:00Z", NULL, "without tz times are those of UTC")
+  if (!is.null(said)) {
+    refuse("columns", said, ", and its moments are labelled UTC: if they are, name tz = \"UTC\", and else give them the zone of their ",
+           "clock, as by as.POSIXct(format(x[[\"", title, "\"]]), tz = \"Europe/Ljubljana\")")
+  }
+}
+
+# Refuses moments of the session's zone, which they have not themselves, whose title says UTC.
+refuse_of_session <- function(title, zone, folder) {
+  said <- if (zone %in% OlsonNames()) said_of_clock(title, folder, "T00:00:00", paste0("--tz=", zone), paste("tz is", zone))
+  if (!is.null(said)) {
+    refuse("columns", said, ", and its moments have no zone, and are by the clock of the session, ", zone, ": give them their own, as by ",
+           "as.POSIXct(format(x[[\"", title, "\"]]), tz = \"UTC\"), or rename the column")
+  }
+}
+
+# What the program says of the title of a column of times of this form, if that is another clock than the one of these words.
+said_of_clock <- function(title, folder, clock, words, beside) {
   path <- file.path(folder, "clock.csv")
-  write_parts(`names<-`(lapply(c("2024-05-01T00:00:00Z", "500000", "5000000"), parts_of_cells), c(title, "easting", "northing")), path)
-  refusal <- run_split(path, paste0("--time=", title), file.path(folder, "clock"))
-  form <- "^column 1 ('.*' says .*), and without tz times are those of UTC: .*$"
+  write_parts(`names<-`(lapply(c(paste0("2024-05-01", clock), "500000", "5000000"), parts_of_cells), c(title, "easting", "northing")), path)
+  refusal <- run_split(path, c(paste0("--time=", title), words), file.path(folder, "clock"))
+  form <- paste0("^column 1 ('.*' says .*), and ", beside, ": .*$")
   if (grepl(form, c(refusal$text, "")[1])) sub(form, "\\1", refusal$text)
 }

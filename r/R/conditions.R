@@ -77,7 +77,8 @@ refuse_object <- function(name, written, fault) {
   is_lost <- function(own) identical(conditionMessage(fault), gettextf("object '%s' not found", own, domain = "R"))
   lost <- Filter(is_lost, unique(all.names(written)))
   if (!length(lost)) stop(fault)
-  refuse("option", if (nzchar(name)) paste0(name, ": "), "there is no object '", lost[1], "'", if (is.symbol(written)) help_for_quotes(name, lost[1]))
+  helps <- if (is.symbol(written) && (name != "x" || grepl(".", lost[1], fixed = TRUE))) help_for_quotes(name, lost[1])
+  refuse("option", if (nzchar(name)) paste0(name, ": "), "there is no object '", lost[1], "'", helps)
 }
 
 help_for_quotes <- function(name, text) {

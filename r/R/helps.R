@@ -11,14 +11,23 @@ sign_helps <- c("%OS" = "%S has the decimals of seconds: write it for %OS", "%T"
 # The titles of a frame; none of a file.
 titles_in <- function(frame) readable(as.character(names(frame$x)))
 
-# Whether a column has clocks without their colon, such as 30, 130 and 1330, some of which have lost zeros.
-has_short_clocks <- function(column, title) {
-  if (is.null(column)) return(FALSE)
+# How many digits clocks without their colons have in a column, such as 30, 130 and 1330, which have lost zeros; 0 where it has others.
+digits_of_clocks <- function(column, title) {
+  if (is.null(column)) return(0)
   cells <- cells_of_column(column, title)
   cells <- cells[nzchar(cells)]
-  if (!length(cells) || !all(grepl("^[0-9]{1,4}$", cells))) return(FALSE)
+  if (!length(cells) || !all(grepl("^[0-9]{1,6}$", cells))) return(0)
   numbers <- as.numeric(cells)
-  all(numbers < 2400 & numbers %% 100 < 60) && max(numbers) >= 100 && any(nchar(cells) < 4)
+  digits <- if (max(numbers) < 10000) 4 else 6
+  are_clocks <- all(numbers < 24 * 10^(digits - 2) & numbers %% 100 < 60 & numbers %/% 100 %% 100 < 60)
+  if (are_clocks && max(numbers) >= 100) digits else 0
+}
+
+forms_of_clocks <- c("4" = "%H%M", "6" = "%H%M%S")
+
+# How clocks are written with all their digits.
+help_for_clocks <- function(digits, own) {
+  paste0("write clocks of ", if (digits == 4) "four" else "six", " digits, as by ", own, " <- sprintf(\"%0", digits, "d\", as.integer(", own, "))")
 }
 
 # A time that is joined of a day and a clock without its zeros, or of a day and hours with decimals.
@@ -29,23 +38,49 @@ help_for_time <- function(found, frame) {
   if (!are_alike || found[3] != one_line(paste(titles, collapse = " "))) return(found[1])
   last <- titles[length(titles)]
   own <- paste0("x[[\"", last, "\"]]")
-  if (has_short_clocks(as.list(frame$x)[[last]], last)) {
-    return(paste0(found[2], ": write clocks of four digits, as by ", own, " <- sprintf(\"%04d\", as.integer(", own, "))"))
-  }
+  digits <- digits_of_clocks(as.list(frame$x)[[last]], last)
+  if (digits > nchar(cells[length(cells)])) return(paste0(found[2], ": ", help_for_clocks(digits, own)))
   is_part <- length(titles) == 2 && grepl("^[0-9]+[.][0-9]+$", cells[2])
   if (is_part && !is.null(frame$x)) paste0(found[2], ": ", help_for_decimals(titles[1], last, frame)) else found[1]
 }
 
-# What helps where hours have decimals.
-help_for_decimals <- function(day, hours, frame) {
+# What helps where hours have decimals, or are parts of a day.
+help_for_decimals <- function(day, hours, frame, are_parts = FALSE) {
   moment <- moment_of_days(as.list(frame$x)[[day]], day, c(frame$given$tz, frame$clock$tz, "UTC")[1])
-  paste0("make moments of both, as by ", moment, " + 3600 * x[[\"", hours, "\"]], in a column that time names alone")
+  own <- paste0("x[[\"", hours, "\"]]")
+  paste0("make moments of both, as by ", moment, " + ", if (are_parts) paste0("round(86400 * ", own, ")") else paste("3600 *", own),
+         ", in a column that time names alone")
 }
 
-# Hours that are no clocks, beside the days of one column.
+# Hours that are no clocks, beside the days of one column: clocks without their colons, parts of a day, or hours with decimals.
 help_for_hours <- function(found, frame) {
   if (!all(found[3:4] %in% titles_in(frame))) return(found[1])
-  paste0(found[2], ": ", help_for_decimals(found[4], found[3], frame), ", or remove it")
+  column <- as.list(frame$x)[[found[3]]]
+  digits <- digits_of_clocks(column, found[3])
+  if (digits) {
+    form <- paste(c(frame$given[["time_format"]], "%Y-%m-%d")[1], forms_of_clocks[[as.character(digits)]])
+    return(paste0(found[2], ": ", help_for_clocks(digits, paste0("x[[\"", found[3], "\"]]")), ", and join them, as by time = \"", found[4], ",",
+                  found[3], "\", time_format = \"", form, "\", or remove it"))
+  }
+  known <- if (is.numeric(column)) column[!is.na(column)]
+  if (!length(known) || any(known < 0 | known > 24)) return(found[1])
+  paste0(found[2], ": ", help_for_decimals(found[4], found[3], frame, max(known) < 1), ", or remove it")
+}
+
+# Moments of one day beside others, which are clocks to which a day was given.
+help_for_moments <- function(found, frame) {
+  at <- match(found[3], one_line(titles_in(frame)))
+  column <- if (!is.na(at)) as.list(frame$x)[[at]]
+  if (!inherits(column, "POSIXct") || is.null(day_of_all(column))) return(found[1])
+  own <- paste0("x[[\"", titles_in(frame)[at], "\"]]")
+  paste0(found[2], ", and all of one day: if they are clocks, make clocks of them, as by ", own, " <- format(", own,
+         ", \"%H:%M:%S\"), and name both, as by time = \"DAY,", found[3], "\"; or remove it")
+}
+
+# The day of moments, more than one, that are all of it; NULL of others.
+day_of_all <- function(column) {
+  days <- format(column[!is.na(column)], "%Y-%m-%d")
+  if (length(days) > 1 && length(unique(days)) == 1) days[1]
 }
 
 # A number that is text and written otherwise than it is read.
@@ -56,7 +91,7 @@ help_for_number <- function(found, frame) {
   if (!is.character(column) && !is.factor(column)) return(found[1])
   own <- paste0("x[[\"", titles[at], "\"]]")
   has_comma <- grepl("^-?[0-9]+,[0-9]+$", found[4])
-  if (!has_comma && grepl("[^-+0-9.eE ]", found[4])) return(found[1])
+  if (!has_comma && !grepl("^ *[+-]?([0-9]+[.]?[0-9]*|[.][0-9]+)([eE][+-]?[0-9]+)? *$", found[4])) return(found[1])
   text <- if (has_comma) paste0("sub(\",\", \".\", ", own, ", fixed = TRUE)") else if (is.factor(column)) paste0("as.character(", own, ")") else own
   what <- if (has_comma) "if its comma stands before decimals, make" else "make"
   paste0(found[2], ": ", what, " numbers of its column, as by ", own, " <- as.numeric(", text, ")")
@@ -133,6 +168,7 @@ helps <- list(
   list("^((.*) is '(.*)' and not a time (?:such as 2024-05-01 00:30:04|of the form .*?))(?:: (?:if it is one|name its form), .*)?$", help_for_time),
   list(paste0("^(column [0-9]+ '(.*)' has hours, which the days of the time have not): write them as clocks, such as 00:30, and join them, as by ",
               "time = \"([^,]*),.*\", or remove it$"), help_for_hours),
+  list("^(column [0-9]+ '(.*)' has days with clocks), and the times that are read are days alone: name it .*$", help_for_moments),
   list("^((.*) is '(.*)' and not a number of up to 12 digits)(?:: write .*)?$", help_for_number),
   list("^(.* is '00[0-9]{2}-[^']*', which is no time since 1970, and not within 0 to [0-9]+ seconds): if its year .*$", help_for_year),
   list("^(.*there is no column '(.*)'); the table has .*$", help_for_dots),

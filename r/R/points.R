@@ -13,6 +13,9 @@ places_of_frame <- function(x, given) {
                                                                        "sf::st_geometry(x) <- \"COLUMN\" says where it is"))
   shapes <- sf::st_zm(shapes)
   crs <- sf::st_crs(shapes)
+  if (!is.na(crs) && sf::st_axis_order()) {
+    refuse("crs", "sf::st_axis_order() is TRUE, and the two coordinates of points may stand in either order: make them with sf::st_axis_order(FALSE)")
+  }
   at <- coordinates_of(x, shapes)
   has_place <- !is_without_place(crs, "x")
   if (!has_place && is.na(crs) && look_like_degrees(at)) {

@@ -315,6 +315,7 @@ read_again <- function(x, given, folder, has_rows, used) {
   check_own(x)
   check_unnamed_rows(x)
   refuse_system(facts, given)
+  check_time(facts, given)
   has_filter <- any(options_of_columns %in% names(given))
   is_own <- c(TRUE, TRUE, rep(!any(c("lon", "lat") %in% names(given)), 2))
   own <- list(unit = facts$unit, zone = facts$zone, crs = if (is.null(facts$zone)) facts$crs, tz = clock_of_fixes(x))
@@ -343,6 +344,14 @@ read_again <- function(x, given, folder, has_rows, used) {
   more <- if (has_rows) rows_of_columns(further_columns(further), read$frame$rows, nrow(x))
   read$fixes <- new_fixes(frame_of(c(as.list(read$fixes), more)), now)
   with_added_said(read, x, used)
+}
+
+# Refuses an option that looks at the times of fixes that have none, but the order of rows.
+check_time <- function(facts, given) {
+  name <- intersect(c("since", "until", "max_speed", "every"), names(given))[1]
+  if (!is.na(name) && is.null(given[["time"]]) && any(startsWith(facts$notes, "no column has a usual title for the time: "))) {
+    refuse("option", name, ": these fixes have no time, but the order of rows: name its column, by time, where the table is read")
+  }
 }
 
 # What was read of these fixes, with what is said of columns that were added to them, and not read.

@@ -70,7 +70,11 @@ with_remedy_of_moments <- function(text, frame) {
   moments <- Filter(is_of_moments, own)
   zones <- lapply(moments, zone_of_days)
   whole <- names(moments)[vapply(zones, is.null, NA)]
-  helps <- if (length(whole) == 1) {
+  days <- substr(unlist(lapply(own[setdiff(names(own), whole)], as.character)), 1, 10)
+  day <- if (length(whole) == 1 && length(days)) day_of_all(as.POSIXct(moments[[whole]]))
+  helps <- if (!is.null(day) && !day %in% days) {
+    paste0(whole, " has clocks on one day: make clocks of it, as by format(x[[\"", whole, "\"]], \"%H:%M:%S\")")
+  } else if (length(whole) == 1) {
     paste0(whole, " has moments: name it alone, as by time = \"", whole, "\"")
   } else if (!length(both) && length(moments) && !length(whole)) {
     paste0(names(moments)[1], " has moments: make days of it, as by as.Date(x, tz = \"", zones[[1]], "\")")

@@ -8,10 +8,11 @@ from typing import Any, Callable, Mapping, Sequence
 
 from ..errors import one_line
 from .cells import cells_of
-from .text import Column, is_number, plain, titles_named
+from .text import Column, has_times, is_number, plain, titles_named
 
 Refusal = re.Match[str]
-CLOCK = 2400  # above a clock without its colon
+NUMBER = re.compile(" *[+-]?([0-9]+[.]?[0-9]*|[.][0-9]+)([eE][+-]?[0-9]+)? *")
+CLOCKS = {4: (2400, "%H%M"), 6: (240000, "%H%M%S")}  # clocks without their colons, by their digits: what is above them, and their form
 TYPES = ("gps-fix-type", "fix-type", "fixtype", "fix-status", "fixstatus", "type-of-fix")
 ORIGINS = {"days of Excel": "1899-12-30", "Julian days": "julian"}
 PARTS = {13: ("milliseconds", "ms"), 16: ("microseconds", "us"), 19: ("nanoseconds", "ns")}  # since 1970, by their digits
@@ -20,15 +21,15 @@ SIGN_HELPS = {"%f": "%S has the decimals of seconds: leave .%f out", "%T": "%H:%
               "pandas.to_datetime(.., format=.., utc=True)", "%B": "make moments of its texts, as by pandas.to_datetime(.., format=..)"}
 
 
-def has_short_clocks(title: str, columns: Sequence[Column]) -> bool:
-    """Whether a column has clocks without their colon, such as 30, 130 and 1330, some of which have lost zeros."""
-    own = [column.values for column in columns if column.title == title]
-    known = [cell for cell in cells_of(own[0]) if cell] if own else []
-    if not known or not all(re.fullmatch("[0-9]{1,4}", cell) for cell in known):
-        return False
+def digits_of_clocks(title: str, columns: Sequence[Column]) -> int:
+    """How many digits clocks without their colons have in a column, such as 30, 130 and 1330, which have lost zeros; 0 where it has others."""
+    known = [cell for column in columns if column.title == title for cell in cells_of(column.values) if cell]
+    if not known or not all(re.fullmatch("[0-9]{1,6}", cell) for cell in known):
+        return 0
     numbers = [int(cell) for cell in known]
-    are_clocks = all(number < CLOCK and number % 100 < 60 for number in numbers)
-    return are_clocks and max(numbers) >= 100 and any(len(cell) < 4 for cell in known)
+    digits = 4 if max(numbers) < 10000 else 6
+    are_clocks = all(number < CLOCKS[digits][0] and number % 100 < 60 and number // 100 % 100 < 60 for number in numbers)
+    return digits if are_clocks and max(numbers) >= 100 else 0
 
 
 def of_time(found: Refusal, options: Mapping[str, Any], columns: Sequence[Column]) -> str:
@@ -37,29 +38,55 @@ def of_time(found: Refusal, options: Mapping[str, Any], columns: Sequence[Column
     if len(titles) != len(cells) or len(titles) < 2 or found[2] != one_line(" ".join(titles)):
         return found[0]
     last = titles[-1]
-    if has_short_clocks(last, columns):
-        return f"{found[1]}: write clocks of four digits, as by {clocks_of_four(last, columns)}"
+    digits = digits_of_clocks(last, columns)
+    if digits and len(cells[-1]) < digits:
+        return f"{found[1]}: {clocks_of(digits, last, columns)}"
     if len(titles) == 2 and columns and re.fullmatch("[0-9]+[.][0-9]+", cells[1]):
         return f"{found[1]}: {help_for_decimals(titles[0], last)}"
     return found[0]
 
 
-def clocks_of_four(title: str, columns: Sequence[Column]) -> str:
-    """How clocks are written with four digits, of numbers or of texts."""
+def clocks_of(digits: int, title: str, columns: Sequence[Column]) -> str:
+    """How clocks are written with all their digits, of numbers or of texts."""
     are_numbers = any(is_number(column.values) for column in columns if column.title == title)
-    return f"frame[{title!r}] = frame[{title!r}]{'.astype({})'.format(repr('Int64')) if are_numbers else ''}.astype('string').str.zfill(4)"
+    return (f"write clocks of {'four' if digits == 4 else 'six'} digits, as by frame[{title!r}] = "
+            f"frame[{title!r}]{'.astype({})'.format(repr('Int64')) if are_numbers else ''}.astype('string').str.zfill({digits})")
 
 
-def help_for_decimals(day: str, hours: str) -> str:
-    """What helps where hours have decimals."""
-    return (f"make moments of both, as by pandas.to_datetime(frame[{day!r}]) + pandas.to_timedelta(frame[{hours!r}], unit='h'), in a column "
-            "that time names alone")
+def help_for_decimals(day: str, hours: str, unit: str = "h") -> str:
+    """What helps where hours have decimals, or are parts of a day."""
+    return (f"make moments of both, as by pandas.to_datetime(frame[{day!r}]) + pandas.to_timedelta(frame[{hours!r}], unit={unit!r})"
+            f"{'.dt.round({})'.format(repr('s')) if unit == 'D' else ''}, in a column that time names alone")
 
 
-def of_hours(found: Refusal, _: Mapping[str, Any], columns: Sequence[Column]) -> str:
-    """Hours that are no clocks, beside the days of one column."""
-    titles = [column.title for column in columns]
-    return f"{found[1]}: {help_for_decimals(found[3], found[2])}, or remove it" if found[2] in titles and found[3] in titles else found[0]
+def of_hours(found: Refusal, options: Mapping[str, Any], columns: Sequence[Column]) -> str:
+    """Hours that are no clocks, beside the days of one column: clocks without their colons, parts of a day, or hours with decimals."""
+    own = next((column.values for column in columns if column.title == found[2]), None)
+    digits = digits_of_clocks(found[2], columns)
+    if own is None or found[3] not in [column.title for column in columns]:
+        return found[0]
+    if digits:
+        form = f"{options.get('time_format') or '%Y-%m-%d'} {CLOCKS[digits][1]}"
+        return (f"{found[1]}: {clocks_of(digits, found[2], columns)}, and join them, as by time='{found[3]},{found[2]}', time_format={form!r}, "
+                "or remove it")
+    if not is_number(own) or not own.dropna().astype(float).between(0, 24).all():
+        return found[0]
+    return f"{found[1]}: {help_for_decimals(found[3], found[2], 'D' if own.dropna().astype(float).max() < 1 else 'h')}, or remove it"
+
+
+def of_moments(found: Refusal, _: Mapping[str, Any], columns: Sequence[Column]) -> str:
+    """Moments of one day beside others, which are clocks to which a day was given."""
+    own = next((column for column in columns if one_line(column.title) == found[2]), None)
+    if own is None or not has_times(own.values) or day_of_all(own) is None:
+        return found[0]
+    return (f"{found[1]}, and all of one day: if they are clocks, make times of the day of them, as by frame[{own.title!r}] = "
+            f"frame[{own.title!r}].dt.time, and name both, as by time='DAY,{own.title}'; or remove it")
+
+
+def day_of_all(column: Column) -> str | None:
+    """The day of moments, more than one, that are all of it; None of others."""
+    days = {str(time.date()) for time in column.values.dropna().astype(object)}
+    return days.pop() if len(days) == 1 and column.values.count() > 1 else None
 
 
 def of_number(found: Refusal, _: Mapping[str, Any], columns: Sequence[Column]) -> str:
@@ -70,7 +97,7 @@ def of_number(found: Refusal, _: Mapping[str, Any], columns: Sequence[Column]) -
     own = f"frame[{column.title!r}]"
     if re.fullmatch("-?[0-9]+,[0-9]+", cell):
         what, numbers = "if its comma stands before decimals, make", f"{own}.astype('string').str.replace(',', '.')"
-    elif "," in cell or cell.strip(" 0123456789.+-eE"):
+    elif not NUMBER.fullmatch(cell):
         return found[0]
     else:
         what, numbers = "make", own
@@ -138,6 +165,7 @@ HELPS: tuple[tuple[str, Callable[[Refusal, Mapping[str, Any], Sequence[Column]],
     ("((.*) is '(.*)' and not a time (?:such as 2024-05-01 00:30:04|of the form .*?))(?:: (?:if it is one|name its form), .*)?", of_time),
     ("(column [0-9]+ '(.*)' has hours, which the days of the time have not): write them as clocks, such as 00:30, and join them, as by "
      "--time '([^,]*),.*', or remove it", of_hours),
+    ("(column [0-9]+ '(.*)' has days with clocks), and the times that are read are days alone: name it .*", of_moments),
     ("((.*) is '(.*)' and not a number of up to 12 digits)(?:: write .*)?", of_number),
     ("(.* is '00[0-9]{2}-[^']*', which is no time since 1970, and not within 0 to [0-9]+ seconds): if its year .*", of_year),
     ("no fix is left; left out by reason: type [0-9]+", of_types),

@@ -45,6 +45,7 @@ SINCE_1970 = (10 ** 8, 9_223_372_036)  # seconds that have a calendar: from 1973
 DONE = (": left out", ": sorted by time")  # how lines end that say what was done to rows, and was not when these were read
 # How lines begin that say what was taken, and nothing that was left out or changed.
 READ, NOT_READ = "columns: ", "not read: "
+NO_TIME, OF_TIMES = "no column has a usual title for the time: ", ("since", "until", "max_speed", "every")
 TAKEN = (READ, "UTM coordinates are", "coordinates are those", "longitude and latitude are", "days and hours are",
          "ranges are by group", NOT_READ, "times are read as ", "points of ")
 
@@ -176,6 +177,7 @@ def read_again(fixes: Fixes, options: Mapping[str, Any], folder: Path, program: 
         refuse_changed(fixes, before)
         return with_added_said(ReadTable(fixes), fixes, used)
     refuse_system(before, wishes)
+    refuse_without_time(before, wishes)
     refuse_unread_rows(fixes, before)
     found = read_text(text_again(fixes, before, wishes), folder, find_split_program(program), has_columns)
     own = reading_of(found.fixes)
@@ -218,6 +220,13 @@ def notes_again(before: Reading, own: Reading, fixes: Fixes, wishes: Mapping[str
     columns = [note.removeprefix(READ).split("; ")[0] for note in own.notes if note.startswith(READ)]
     are_own = columns in ([], [", ".join(own_titles(fixes))])
     return notes if are_own or not OF_COLUMNS & {*wishes} else [*notes, f"read again by columns: {columns[0]}"]
+
+
+def refuse_without_time(before: Reading, wishes: Mapping[str, Any]) -> None:
+    """Refuses an option that looks at the times of fixes that have none, but the order of rows."""
+    name = next((name for name in OF_TIMES if name in wishes), None)
+    if name is not None and "time" not in wishes and any(note.startswith(NO_TIME) for note in before.notes):
+        refuse(f"{name}: these fixes have no time, but the order of rows: name its column, by time, where the table is read", "option")
 
 
 def refuse_without_zone(times: pandas.Series) -> None:

@@ -14,8 +14,8 @@ import pandas
 from ..errors import FrameError, one_line, refuse
 from ..record import Record
 from .call import as_arguments
-from .cells import IANA, cell_of, is_missing, is_time, odd_row, row_named
-from .helps import with_help
+from .cells import IANA, cell_of, cells_of, is_missing, is_time, odd_row, row_named
+from .helps import day_of_all, with_help
 from .systems import TITLES_OF_DEGREES
 from .text import NAME, Column, Text, has_times, in_own_words, titles_named, zones_in
 
@@ -99,11 +99,13 @@ def with_moments_alone(said: str, text: Text) -> str:
     titles = both.groups() if both else named if len(named) > 1 else ()
     own = [column for column in text.columns if one_line(column.title) in titles]
     moments = [column for column in own if has_times(column.values)]
-    clocks = next((column.title for column in moments if not are_midnights(column) and has_no_date(column)), None)
+    days_of = {cell[:10] for column in own if not has_times(column.values) or are_midnights(column) for cell in cells_of(column.values)}
+    clocks = next((column for column in moments if not are_midnights(column) and (has_no_date(column) or days_of and day_of_all(column) not in {None, *days_of})), None)
     whole = [column.title for column in moments if not are_midnights(column)]
     days = [column for column in moments if None not in zones_in(column.values)]
     if clocks is not None:
-        helps = f"{one_line(clocks)} has clocks on days of 1899, as spreadsheets have them: make times of the day of it, as by .dt.time"
+        where = "days of 1899, as spreadsheets have them" if has_no_date(clocks) else "one day"
+        helps = f"{one_line(clocks.title)} has clocks on {where}: make times of the day of it, as by .dt.time"
     elif len(whole) == 1:
         helps = f"{one_line(whole[0])} has moments: name it alone, as by --time {whole[0]!r}"
     elif days and not whole:

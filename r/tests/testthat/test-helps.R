@@ -76,6 +76,39 @@ test_that("hours with decimals are refused with what makes moments of them", {
   expect_identical(seconds_of_fixes(x, time = "moment"), as.numeric(day) + 60 * c(30, 75, 1425))
 })
 
+test_that("clocks and parts of a day under a title of hours are refused with what makes clocks and moments of them", {
+  skip_without_split()
+  has_hours <- "column 5 'hour' has hours, which the days of the time have not: "
+  for (case in list(list(c(30, 100, 1330), 4, "four"), list(c("0030", "0100", "1330"), 4, "four"), list(c(3000, 10000, 133000), 6, "six"))) {
+    x <- cbind(places, date = "2024-03-01", hour = case[[1]])
+    makes <- paste0("x[[\"hour\"]] <- sprintf(\"%0", case[[2]], "d\", as.integer(x[[\"hour\"]]))")
+    form <- paste("%Y-%m-%d", if (case[[2]] == 4) "%H%M" else "%H%M%S")
+    refused(x, paste0(has_hours, "write clocks of ", case[[3]], " digits, as by ", makes, ", and join them, as by time = \"date,hour\", time_format = \"",
+                      form, "\", or remove it"), "columns")
+    eval(parse(text = makes))
+    expect_identical(seconds_of_fixes(x, time = "date,hour", time_format = form), as.numeric(day) + 60 * c(30, 60, 810))
+  }
+  x <- cbind(places, date = "2024-03-01", hour = c(0.020833333, 0.25, 0.5625))
+  moment <- "as.POSIXct(x[[\"date\"]], tz = \"UTC\") + round(86400 * x[[\"hour\"]])"
+  refused(x, paste0(has_hours, "make moments of both, as by ", moment, ", in a column that time names alone, or remove it"), "columns")
+  x$moment <- eval(parse(text = moment))
+  expect_identical(seconds_of_fixes(x, time = "moment"), as.numeric(day) + 60 * c(30, 360, 810))
+  x <- cbind(places, date = "2024-03-01", hour = c("1h30", "2h30", "3h30"))
+  refused(x, paste0(has_hours, "write them as clocks, such as 00:30, and join them, as by time = \"date,hour\", or remove it"), "columns")
+})
+
+test_that("clocks to which one day was given are refused with what takes it away", {
+  skip_without_split()
+  x <- cbind(places, date = c("2024-03-01", "2024-03-02", "2024-03-03"))
+  x$clock <- as.POSIXct(c("2026-11-30 00:30", "2026-11-30 09:00", "2026-11-30 13:30"), tz = "UTC")
+  makes <- "x[[\"clock\"]] <- format(x[[\"clock\"]], \"%H:%M:%S\")"
+  refused(x, paste0("column 5 'clock' has days with clocks, and all of one day: if they are clocks, make clocks of them, as by ", makes,
+                    ", and name both, as by time = \"DAY,clock\"; or remove it"), "columns")
+  expect_match(said_of(x, "", time = "date,clock"), "clock has clocks on one day: make clocks of it, as by format(x[[\"clock\"]], \"%H:%M:%S\")", fixed = TRUE)
+  eval(parse(text = makes))
+  expect_identical(seconds_of_fixes(x, time = "date,clock"), as.numeric(day) + 86400 * 0:2 + 60 * c(30, 540, 810))
+})
+
 test_that("numbers that are text are refused with what makes numbers of them", {
   skip_without_split()
   cases <- list(c("500010,5", "500090,25", "if its comma stands before decimals, make"), c("+500010.5", "500090.25", "make"),

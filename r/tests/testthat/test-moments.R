@@ -111,3 +111,19 @@ test_that("fixes that write.csv writes are read as they were", {
   changed[1, "easting"] <- 500002
   expect_identical(quietly(read_fixes(changed))$easting, c(500002, 500100, 600000, 500001))
 })
+
+test_that("moments without a zone under a title that says UTC are refused in a session of another zone", {
+  skip_without_split()
+  old <- Sys.getenv("TZ", NA)
+  on.exit(if (is.na(old)) Sys.unsetenv("TZ") else Sys.setenv(TZ = old))
+  Sys.setenv(TZ = "Europe/Vienna")
+  x <- data.frame(id = "a", time_utc = as.POSIXct("2024-05-01 10:00") + 3600 * 0:2, x = c(500000, 500010, 500020), y = c(5000000, 5000030, 5000010))
+  fault <- expect_error(read_fixes(x, time = "time_utc", quiet = TRUE), class = "homerange_columns_error")
+  helps <- "as.POSIXct(format(x[[\"time_utc\"]]), tz = \"UTC\")"
+  expect_identical(conditionMessage(fault), paste0("'time_utc' says utc, and its moments have no zone, and are by the clock of the session, Europe/Vienna: ",
+                                                   "give them their own, as by ", helps, ", or rename the column"))
+  labelled <- transform(x, time_utc = as.POSIXct("2024-05-01 10:00", tz = "Europe/Vienna") + 3600 * 0:2)
+  expect_identical(as.numeric(read_fixes(labelled, time = "time_utc", quiet = TRUE)$time), 1714550400 + 3600 * 0:2)
+  x$time_utc <- eval(parse(text = helps))
+  expect_identical(as.numeric(read_fixes(x, time = "time_utc", quiet = TRUE)$time), 1714557600 + 3600 * 0:2)
+})

@@ -194,3 +194,12 @@ test_that("a speed in units is rounded up, so that none is cut", {
   skip_if_not_installed("units")
   expect_identical(text_of_speed(units::set_units(1.2, "km/h")), "0.333334")
 })
+
+test_that("options of times are refused for fixes that have none", {
+  skip_without_split()
+  fixes <- read_fixes(data.frame(animal = "a", easting = c(500000, 500010, 500020), northing = c(5000000, 5000030, 5000010)), quiet = TRUE)
+  for (given in list(list(every = "2h"), list(max_speed = 400), list(since = "1970-01-01"), list(until = "2024-01-01"))) {
+    fault <- expect_error(do.call(read_fixes, c(list(fixes, quiet = TRUE), given)), class = "homerange_option_error")
+    expect_identical(conditionMessage(fault), paste0(names(given), ": these fixes have no time, but the order of rows: name its column, by time, where the table is read"))
+  }
+})

@@ -385,3 +385,12 @@ test_that("points of systems whose x is the northing", {
     expect_identical(quietly(read_fixes(table, crs = 3035))$easting, round(unname(moved[, 1])))
   }
 })
+
+test_that("points are refused while sf has axes in the order of their authority", {
+  skip_without_split()
+  skip_if_not_installed("sf")
+  old <- sf::st_axis_order(TRUE)
+  on.exit(sf::st_axis_order(old))
+  points <- sf::st_as_sf(data.frame(animal = "a", x = c(500000, 500010, 500020), y = c(5000000, 5000030, 5000010)), coords = c("x", "y"), crs = 32633)
+  expect_error(read_fixes(points, quiet = TRUE), "sf::st_axis_order() is TRUE", fixed = TRUE, class = "homerange_crs_error")
+})
