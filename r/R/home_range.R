@@ -94,9 +94,9 @@ help_for_level <- function(level) {
 
 # Refuses arguments that the function which calls has not.
 check_dots <- function(...) {
-  look_at_arguments(parent.frame(), sys.function(sys.parent()))
   names <- names_of_arguments(...)
   if (length(names)) refuse_argument(names[1], names(formals(sys.function(sys.parent()))))
+  look_at_arguments(parent.frame(), sys.function(sys.parent()))
 }
 
 # Refuses an argument, or one without a name, that is none of these; says which of them it is, where other tools call it so.

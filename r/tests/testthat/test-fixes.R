@@ -573,8 +573,8 @@ test_that("a matrix is no name of an animal, and no group", {
 test_that("the zone of times is that of the columns that are read", {
   skip_without_split()
   start <- as.POSIXct("2024-03-30 20:00", tz = "Europe/Paris")
-  table <- data.frame(animal = "a", time = start + 3600 * 0:3, easting = 1:4, northing = 1:4, created = as.POSIXct("2024-05-01", tz = "UTC"))
-  expect_message(read_fixes(table), "days and hours are those of Europe/Paris, the zone of time")
+  table <- data.frame(animal = "a", deployed = start + 3600 * 0:3, easting = 1:4, northing = 1:4, created = as.POSIXct("2024-05-01", tz = "UTC"))
+  expect_message(read_fixes(table, time = "deployed"), "days and hours are those of Europe/Paris, the zone of deployed")
   expect_identical(attr(quietly(read_fixes(table, time = "created"))$time, "tzone"), "UTC")
 })
 
