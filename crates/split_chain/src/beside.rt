@@ -3,19 +3,17 @@
 ghost use Rattle.std.specs.Prelude.{IfErr};
 ghost use Rattle.split_refusal.specs.Refused.{IsOfNoFix};
 
+use crate::read::shown;
 use range_plane::{OutOfMemory, Scale};
 use split_export::{Export, lie_otherwise};
 use split_refusal::{Kind, Refusal};
-use split_titles::{Pair, trimmed, usual_degrees_in};
+use split_titles::{Pair, degrees_beside, trimmed};
 use std::alloc::{AllocError, Global};
 
-// The columns of longitude and latitude by their usual titles.
-fn degrees_in(alloc: Global, titles: &[Vec<u8>]) -> Result<Option<Pair>, OutOfMemory> {
-    let mut shown: Vec<&[u8]> = Vec::new(alloc);
-    for title in titles {
-        shown.push(title.as_slice())?;
-    }
-    Ok(usual_degrees_in(&shown))
+// The columns of longitude and latitude that are not read.
+fn degrees_in(alloc: Global, export: &Export<'_>) -> Result<Option<Pair>, OutOfMemory> {
+    let titles = shown(alloc, &export.titles)?;
+    Ok(degrees_beside(&titles, &export.columns))
 }
 
 // Appends two columns by their numbers and their titles.
@@ -66,7 +64,7 @@ pub(crate) fn refuse_beside(alloc: Global, unit: Scale, export: &Export<'_>) -> 
     let (Some(metres), None) = (export.columns.metres, export.columns.degrees) else {
         return Ok(());
     };
-    let degrees = match degrees_in(alloc, &export.titles) {
+    let degrees = match degrees_in(alloc, export) {
         Ok(Some(degrees)) => degrees,
         Ok(None) => return Ok(()),
         Err(_) => return Err(Refusal::out_of_memory(alloc)),

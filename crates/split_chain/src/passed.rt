@@ -4,6 +4,7 @@ ghost use Rattle.std.specs.Prelude.{IfErr};
 ghost use Rattle.split_refusal.specs.Refused.{IsOfNoFix};
 
 use crate::beside::refuse_beside;
+use crate::halves::refuse_halves;
 use crate::joined::{Unread, join_words, joined_titles, own_title, refuse_parts};
 use crate::minutes::refuse_minutes;
 use crate::summers::refuse_summers;
@@ -15,11 +16,11 @@ use split_clock::Clock;
 use split_export::{Export, Texts, look_at_unread};
 use split_reading::{Row, Told};
 use split_refusal::{Kind, Refusal, sign_of};
-use split_titles::{comes_to, has_word, is_of_halves, is_of_places, not_read, trimmed};
+use split_titles::{comes_to, has_word, is_of_places, not_read, trimmed};
 use std::alloc::{AllocError, Global};
 
 // The seconds of a day.
-const DAY: i128 = 86_400;
+pub(crate) const DAY: i128 = 86_400;
 
 // The zone that every clock without a name is of.
 pub(crate) const UTC: &str = "UTC";
@@ -169,8 +170,6 @@ const ZONES: [&[u8]; 17] = [
 // What a column that is not read says.
 #[derive(Clone, Copy)]
 enum Passed {
-    // Which half of the day it was.
-    Half,
     // That it was south or west, of degrees without a minus.
     Side,
     // The Argos class.
@@ -294,8 +293,6 @@ fn known_of(export: &Export<'_>, wish: &Wish<'_>) -> Known {
 fn what_is_passed(known: Known, title: &[u8], texts: &Texts) -> Option<Passed> {
     if !texts.are_there {
         None
-    } else if known.has_time && (texts.are_halves || is_of_halves(title)) {
-        Some(Passed::Half)
     } else if texts.are_against() {
         Some(Passed::Side)
     } else if texts.are_of_argos() && !known.has_classes {
@@ -338,10 +335,6 @@ fn part_of(passed: Passed) -> Option<(&'static str, &'static str)> {
 // Why a column may not be passed over, and the remedy, where that is one for all columns.
 fn words_of(passed: Passed) -> &'static str {
     match passed {
-        Passed::Half => {
-            "has halves of the day, and is not read: write them AM and PM and join it to the time, as by --time TIME,COLUMN with %p \
-             in --time-format, or remove it"
-        }
         Passed::Side => {
             "has S or W beside degrees above 0, and is not read: if they lie there, write them with a minus and remove it, and else \
              write its values otherwise"
@@ -447,8 +440,8 @@ fn first_passed(known: Known, unread: Unread<'_>) -> Option<(usize, Passed)> {
     None
 }
 
-// The title of a column of an export.
-fn title_at<'a>(export: &'a Export<'_>, column: usize) -> &'a [u8] {
+/// The title of a column of an export.
+pub(crate) fn title_at<'a>(export: &'a Export<'_>, column: usize) -> &'a [u8] {
     match export.titles.get(column) {
         Some(title) => title.as_slice(),
         None => b"",
@@ -464,6 +457,7 @@ fn refuse_unread(
 ) -> Result<(), Refusal>
     ensures { IfErr result IsOfNoFix }
 {
+    refuse_halves(alloc, wish, export, unread)?;
     if let Some((column, what)) = first_passed(known_of(export, wish), unread) {
         return Err(passed_refusal(alloc, export, wish, unread, column, what));
     }
@@ -497,7 +491,7 @@ pub(crate) fn refuse_passed_over(
         .iter()
         .any(|column| is_of_places(title_at(export, *column)));
     let rows = &export.ledger.rows;
-    let Ok(texts) = look_at_unread(alloc, &export.text, &columns, have_places, rows) else {
+    let Ok(texts) = look_at_unread(alloc, &export.text, &columns, export.columns.degrees, have_places, rows) else {
         return Err(Refusal::out_of_memory(alloc));
     };
     let unread = Unread {

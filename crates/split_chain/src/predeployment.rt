@@ -4,7 +4,7 @@ ghost use Rattle.std.specs.Prelude.{IfErr};
 ghost use Rattle.split_refusal.specs.Refused.{IsOfNoFix};
 
 use range_plane::OutOfMemory;
-use split_export::{Export, Flag, flags_in};
+use split_export::{Export, Flag, Flags, flags_in};
 use split_reading::{Row, Told};
 use split_refusal::Refusal;
 use split_said::Said;
@@ -43,7 +43,7 @@ fn count_flagged(rows: &[Row], flags: &[Flag]) -> usize {
 // How many fixes that are taken have a flag that is set in a column.
 fn count_in(alloc: Global, export: &Export<'_>, column: usize) -> Result<usize, TableFault> {
     let rows = &export.ledger.rows;
-    match flags_in(alloc, &export.text, column, rows.len())? {
+    match flags_in(alloc, &export.text, column, rows.len(), Flags::Plain)? {
         Some(flags) => Ok(count_flagged(rows, &flags)),
         None => Ok(0),
     }

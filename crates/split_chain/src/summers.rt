@@ -7,7 +7,7 @@ use crate::joined::Unread;
 use crate::passed::{UTC, refusal_of};
 use crate::wish::Wish;
 use split_clock::Clock;
-use split_export::{Export, Flag, flags_in};
+use split_export::{Export, Flag, Flags, flags_in};
 use split_reading::{Row, Told};
 use split_refusal::Refusal;
 use split_titles::is_of_summer;
@@ -85,7 +85,7 @@ fn refuse_column(
     ensures { IfErr result IsOfNoFix }
 {
     let rows = &export.ledger.rows;
-    let flags = match flags_in(alloc, &export.text, column, rows.len()) {
+    let flags = match flags_in(alloc, &export.text, column, rows.len(), Flags::Plain) {
         Ok(Some(flags)) => flags,
         Ok(None) => return Ok(()),
         Err(_) => return Err(Refusal::out_of_memory(alloc)),

@@ -3,13 +3,16 @@
 ghost use Rattle.std.specs.Prelude.{IfErr};
 ghost use Rattle.split_refusal.specs.Refused.{IsOfNoFix};
 
+use crate::passed::{refusal_of, title_at};
 use crate::read::{day_refusal, untimed_refusal};
 use crate::wish::Wish;
 use range_plane::OutOfMemory;
-use split_export::{Asked, Export, TimesLook, column_of_times, look_at_times, rules_of};
+use split_export::{
+    Asked, Export, TimesLook, column_of_times, first_of_utc, look_at_times, rules_of,
+};
 use split_refusal::Refusal;
-use split_titles::not_read;
-use std::alloc::Global;
+use split_titles::{ClockDoubt, clock_doubt, not_read};
+use std::alloc::{AllocError, Global};
 
 // The zone that every clock without a name is of.
 const UTC: &str = "UTC";
@@ -33,6 +36,51 @@ fn refuse_unread_times(alloc: Global, asked: &Asked<'_>, export: &Export<'_>) ->
         export.ledger.rows.len(),
     ) {
         Ok(Some(column)) => Err(untimed_refusal(alloc, &export.titles, column)),
+        Ok(None) => Ok(()),
+        Err(_) => Err(Refusal::out_of_memory(alloc)),
+    }
+}
+
+// The first column of the time whose title says another clock than that of UTC.
+fn local_column(export: &Export<'_>) -> Option<usize> {
+    for column in &export.columns.time {
+        if clock_doubt(title_at(export, *column), None) == Some(ClockDoubt::Local) {
+            return Some(*column);
+        }
+    }
+    None
+}
+
+// Why a column is refused that says another clock than that of UTC, and of which the time of this record ends with `Z`.
+fn utc_words(alloc: Global, record: u32) -> Result<String, AllocError> {
+    format!(in alloc;
+        "says another clock than that of UTC, and the time of record {record} ends with Z, as those of UTC do: rename the column, or \
+         write the times of that clock without a Z, and name its zone, as by --tz Europe/Ljubljana"
+    )
+}
+
+// The refusal of a column that says another clock than that of UTC, and of which the time of this record ends with `Z`.
+fn utc_refusal(alloc: Global, export: &Export<'_>, column: usize, record: u32) -> Refusal
+    ensures { IsOfNoFix result }
+{
+    match utc_words(alloc, record) {
+        Ok(words) => refusal_of(alloc, column, title_at(export, column), &words),
+        Err(_) => Refusal::out_of_memory(alloc),
+    }
+}
+
+// Refuses times of UTC under a title that says another clock.
+fn refuse_times_of_utc(alloc: Global, asked: &Asked<'_>, export: &Export<'_>) -> Result<(), Refusal>
+    ensures { IfErr result IsOfNoFix }
+{
+    let Some(column) = local_column(export) else {
+        return Ok(());
+    };
+    let Ok(rules) = rules_of(&export.columns, export.titles.len(), false, asked) else {
+        return Ok(());
+    };
+    match first_of_utc(alloc, &export.text, &rules, &export.ledger.rows) {
+        Ok(Some(record)) => Err(utc_refusal(alloc, export, column, record)),
         Ok(None) => Ok(()),
         Err(_) => Err(Refusal::out_of_memory(alloc)),
     }
@@ -84,7 +132,7 @@ fn form_words(alloc: Global, wish: &Wish<'_>, used: &[bool]) -> Result<Vec<u8>, 
 ///
 /// # Errors
 ///
-/// All times are numbers that may be days with hours; no column of the time has a usual title, and one of another title has times;
+/// All times are numbers that may be days with hours; times of UTC stand under a title of another clock; no column of the time has a usual title, and one of another title has times;
 /// or memory ran out.
 pub(crate) fn form_of_times(
     alloc: Global,
@@ -99,6 +147,7 @@ pub(crate) fn form_of_times(
         refuse_unread_times(alloc, asked, export)?;
         return Ok(Vec::new(alloc));
     }
+    refuse_times_of_utc(alloc, asked, export)?;
     let Some(look) = look_by(alloc, export, asked)? else {
         return Ok(Vec::new(alloc));
     };

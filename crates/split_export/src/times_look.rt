@@ -150,3 +150,39 @@ pub fn look_at_times(
     };
     Ok(TimesLook { day, forms })
 }
+
+// Whether the time of a row, if it is one, has an offset.
+fn has_offset(row: &Row) -> bool {
+    match row.told {
+        Told::Fix(fix) => !fix.is_local,
+        Told::LeftOut(_) => false,
+    }
+}
+
+/// The first record of a text, whose records say this by the rules, whose time ends with `Z`, as that of UTC does.
+///
+/// # Errors
+///
+/// Memory ran out.
+pub fn first_of_utc(
+    alloc: Global,
+    text: &TableText<'_>,
+    rules: &Rules<'_, '_>,
+    rows: &[Row],
+) -> Result<Option<u32>, TableFault> {
+    if !rows.iter().any(has_offset) {
+        return Ok(None);
+    }
+    let mut table = text.table(alloc)?;
+    let mut buffer = Vec::new(alloc);
+    for (index, row) in rows.iter().enumerate() {
+        if !table.advance()? {
+            return Ok(None);
+        }
+        let time = current_text(&mut buffer, &table, rules)?;
+        if has_offset(row) && time.ends_with(b"Z") {
+            return Ok(Some(u32::try_from(index).unwrap_or(u32::MAX).saturating_add(1)));
+        }
+    }
+    Ok(None)
+}

@@ -8,7 +8,7 @@ use range_plane::OutOfMemory;
 use split_filters::class_name;
 use split_reading::{Row, Told};
 use split_table::{TableFault, TableText};
-use split_titles::{clock_of_half, is_half_of_day, unit_named};
+use split_titles::{Pair, clock_of_half, is_half_of_day, unit_named};
 use split_tracks::Reason;
 use std::alloc::Global;
 
@@ -107,8 +107,8 @@ fn is_utc(text: &[u8]) -> bool {
 }
 
 impl Texts {
-    // Those of no text, of a column of this title.
-    fn none(title: &[u8]) -> Texts {
+    // Those of no text, of a column of this title, which stands beside one of coordinates or not.
+    fn none(title: &[u8], is_beside: bool) -> Texts {
         Texts {
             are_there: false,
             are_several: false,
@@ -123,7 +123,7 @@ impl Texts {
             are_grid_zones: true,
             are_units: true,
             is_beside_none: false,
-            sides: Sides::none(title),
+            sides: Sides::none(title, is_beside),
             are_classes: true,
             has_number: false,
             has_letter: false,
@@ -249,20 +249,30 @@ fn add(texts: &mut [Texts], columns: &[usize], fields: &ByteRecord, row: &Row) {
     }
 }
 
-// The texts of columns of these titles without a record.
+// Whether a column stands right beside one of two others.
+fn is_beside(column: usize, pair: Option<Pair>) -> bool {
+    match pair {
+        Some(pair) => column.abs_diff(pair.first) == 1 || column.abs_diff(pair.second) == 1,
+        None => false,
+    }
+}
+
+// The texts of columns of these titles without a record, beside degrees that are read.
 fn no_texts(
     alloc: Global,
     titles: &ByteRecord,
     columns: &[usize],
+    degrees: Option<Pair>,
 ) -> Result<Vec<Texts>, OutOfMemory> {
     let mut texts = Vec::new(alloc);
     for column in columns {
-        texts.push(Texts::none(titles.get(*column).unwrap_or(b"")))?;
+        let title = titles.get(*column).unwrap_or(b"");
+        texts.push(Texts::none(title, is_beside(*column, degrees)))?;
     }
     Ok(texts)
 }
 
-/// What the texts of some columns are, of a table whose records say this. All records are looked at if one has no coordinates and
+/// What the texts of some columns are, beside degrees that are read, of a table whose records say this. All records are looked at if one has no coordinates and
 /// one of the columns may have places; and else as many as can tell something.
 ///
 /// # Errors
@@ -272,11 +282,12 @@ pub fn look_at_unread(
     alloc: Global,
     text: &TableText<'_>,
     columns: &[usize],
+    degrees: Option<Pair>,
     have_places: bool,
     rows: &[Row],
 ) -> Result<Vec<Texts>, TableFault> {
     let mut table = text.table(alloc)?;
-    let Ok(mut texts) = no_texts(alloc, table.titles(), columns) else {
+    let Ok(mut texts) = no_texts(alloc, table.titles(), columns, degrees) else {
         return Err(TableFault::OutOfMemory);
     };
     let has_none = have_places && rows.iter().any(is_nowhere);

@@ -91,6 +91,42 @@ const PLACES: [&str; 48] = [
     "zona",
 ];
 
+// Words of titles of sides, beside letters and words for them.
+const TITLES: [&str; 26] = [
+    "ns",
+    "ew",
+    "we",
+    "eo",
+    "wo",
+    "ow",
+    "n",
+    "s",
+    "e",
+    "w",
+    "o",
+    "hemisphere",
+    "hemi",
+    "hemisphäre",
+    "side",
+    "sign",
+    "dir",
+    "direction",
+    "ref",
+    "lat",
+    "latitude",
+    "latitud",
+    "lon",
+    "long",
+    "longitude",
+    "longitud",
+];
+
+// Words beside which such a title is that of something else.
+const OTHERS: [&str; 14] = [
+    "wind", "weather", "flight", "flow", "current", "view", "sex", "gender", "sexe", "sexo",
+    "geschlecht", "treatment", "season", "observer",
+];
+
 // A side of the Earth.
 #[derive(Clone, Copy, PartialEq, Eq)]
 enum Side {
@@ -146,11 +182,17 @@ fn first_of(text: &[u8]) -> &[u8] {
     }
 }
 
-// The side that a text says: by a letter, or by a word where no places or groups are called so.
+// Whether letters of a column of this title may be sides by it: where it says so, or stands beside coordinates, and not where it says
+// something else.
+fn may_have_letters(title: &[u8], is_beside: bool) -> bool {
+    (is_beside || has_word(title, &TITLES)) && !has_word(title, &OTHERS)
+}
+
+// The side that a text says, where no places or groups are called so.
 fn side_of(text: &[u8], are_places: bool) -> Option<Side> {
     match text {
-        [letter] => side_of_letter(*letter),
         _ if are_places => None,
+        [letter] => side_of_letter(*letter),
         _ => match first_of(text) {
             [letter] => side_of_letter(*letter),
             word => side_of_word(word),
@@ -180,6 +222,9 @@ fn may_be_against(side: Option<Side>, degrees: Option<(i64, i64)>) -> bool {
 pub(crate) struct Sides {
     // Whether the column may have names of places, which are called by sides too.
     are_places: bool,
+    // Whether a letter may be a side by the title and the place of the column, and whether one text is a word for a side.
+    may_have_letters: bool,
+    has_word: bool,
     // Whether all are north or south, and whether all are east or west.
     are_of_latitude: bool,
     are_of_longitude: bool,
@@ -187,18 +232,23 @@ pub(crate) struct Sides {
     is_against: bool,
     may_be_against: bool,
     has_east: bool,
+    // Whether one is the east or the north.
+    has_other: bool,
 }
 
 impl Sides {
-    /// Those of no text, of a column of this title.
-    pub(crate) fn none(title: &[u8]) -> Sides {
+    /// Those of no text, of a column of this title, which stands beside one of coordinates or not.
+    pub(crate) fn none(title: &[u8], is_beside: bool) -> Sides {
         Sides {
             are_places: has_places(title),
+            may_have_letters: may_have_letters(title, is_beside),
+            has_word: false,
             are_of_latitude: true,
             are_of_longitude: true,
             is_against: false,
             may_be_against: false,
             has_east: false,
+            has_other: false,
         }
     }
 
@@ -212,11 +262,14 @@ impl Sides {
         let is_of_longitude = matches!(side, Some(Side::East | Side::West | Side::O));
         Sides {
             are_places: self.are_places,
+            may_have_letters: self.may_have_letters,
+            has_word: self.has_word || text.len() > 1,
             are_of_latitude: self.are_of_latitude && is_of_latitude,
             are_of_longitude: self.are_of_longitude && is_of_longitude,
             is_against: self.is_against || is_against(side, degrees),
             may_be_against: self.may_be_against || may_be_against(side, degrees),
             has_east: self.has_east || side == Some(Side::East),
+            has_other: self.has_other || matches!(side, Some(Side::East | Side::North)),
         }
     }
 
@@ -225,8 +278,13 @@ impl Sides {
         self.are_of_latitude || self.are_of_longitude
     }
 
+    // Whether they are sides, and no letters that stand for something else.
+    fn are_sides(&self) -> bool {
+        self.are_some() && (self.may_have_letters || self.has_word || self.has_other)
+    }
+
     /// Whether they say that latitudes are south or longitudes west, which have no minus.
     pub(crate) fn are_against(&self) -> bool {
-        self.are_some() && (self.is_against || self.may_be_against && self.has_east)
+        self.are_sides() && (self.is_against || self.may_be_against && self.has_east)
     }
 }

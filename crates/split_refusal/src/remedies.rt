@@ -33,7 +33,7 @@ const DAYS: [&str; 17] = [
 ];
 
 // Forms of clocks behind a day.
-const CLOCKS: [&str; 7] = [
+const CLOCKS: [&str; 9] = [
     "",
     " %H:%M:%S",
     " %H:%M",
@@ -41,6 +41,8 @@ const CLOCKS: [&str; 7] = [
     " %I:%M %p",
     ", %H:%M:%S",
     ", %I:%M:%S %p",
+    " %H%M%S",
+    " %H%M",
 ];
 
 // Whether a byte may stand in a word for what is missing, and needs no quotes there.
@@ -79,6 +81,22 @@ fn words_of_number(cell: &[u8]) -> Option<&'static str> {
     }
 }
 
+// A text without the letter of a side, or the sign of degrees, at its end.
+fn without_side(cell: &[u8]) -> &[u8] {
+    match cell {
+        [start @ .., b'N' | b'S' | b'E' | b'W' | b'O' | b'n' | b's' | b'e' | b'w' | b'o'] => start,
+        [start @ .., 0xC2, 0xB0] => start,
+        _ => cell,
+    }
+}
+
+// Whether a field is a number of degrees behind which their side or their sign stands.
+fn has_side(cell: &[u8]) -> bool {
+    let start = without_side(cell);
+    let number = without_blanks(without_side(without_blanks(start)));
+    start.len() < cell.len() && is_number(number)
+}
+
 // Whether a byte may stand in a number, in one form or another.
 fn is_of_number(byte: u8) -> bool {
     byte.is_ascii_digit() || b"+-.,eE".contains(&byte)
@@ -87,6 +105,12 @@ fn is_of_number(byte: u8) -> bool {
 /// Appends what is to be done about a field that is no number: how it is to be written, or by which option it is missing, where it
 /// may be a word for that.
 pub(crate) fn push_number_remedy(text: &mut Vec<u8>, cell: &[u8]) -> Result<(), AllocError> {
+    if has_side(cell) {
+        return push(
+            text,
+            ": write degrees as numbers alone, with a minus before those in the south or the west",
+        );
+    }
     if let Some(words) = words_of_number(cell) {
         return push(text, words);
     }
@@ -113,13 +137,13 @@ fn has_form(form: &[u8], cell: &[u8]) -> bool {
     }
 }
 
-// Appends the forms of a day and a clock that a text has, of which so many stand before, the first behind these words. Answers how
-// many there are then.
+// Appends the forms of a day and a clock with this end that a text has, of which so many stand before, the first behind these words.
+// Answers how many there are then.
 fn push_forms(
     alloc: Global,
     text: &mut Vec<u8>,
     cell: &[u8],
-    day: &str,
+    (day, end): (&str, &[u8]),
     before: usize,
     words: &str,
 ) -> Result<usize, OutOfMemory> {
@@ -127,6 +151,7 @@ fn push_forms(
     for clock in CLOCKS {
         let mut form = Vec::from_slice(alloc, day.as_bytes())?;
         push(&mut form, clock)?;
+        form.extend_from_slice(end)?;
         if has_form(&form, cell) {
             push(text, if count == 0 { words } else { " or '" })?;
             text.extend_from_slice(&form)?;
@@ -137,18 +162,55 @@ fn push_forms(
     Ok(count)
 }
 
-// Appends the forms of days and clocks that a text has, the first behind these words. Answers how many there are.
+// Appends the forms of days and clocks with this end that a text has, the first behind these words. Answers how many there are.
 fn push_all_forms(
     alloc: Global,
     text: &mut Vec<u8>,
     cell: &[u8],
+    end: &[u8],
     words: &str,
 ) -> Result<usize, OutOfMemory> {
     let mut count = 0;
     for day in DAYS {
-        count = push_forms(alloc, text, cell, day, count, words)?;
+        count = push_forms(alloc, text, cell, (day, end), count, words)?;
     }
     Ok(count)
+}
+
+// Names of UTC behind a time.
+const NAMES_OF_UTC: [&[u8]; 3] = [b" UTC", b" GMT", b" Z"];
+
+// Whether a word may be a zone of time: great letters, of which none is a half of the day, or what begins with `UTC` or `GMT`.
+fn may_be_zone(word: &[u8]) -> bool {
+    let is_half = word == b"AM".as_slice() || word == b"PM".as_slice();
+    let is_name = 1 <= word.len() && word.len() <= 5 && word.iter().all(u8::is_ascii_uppercase);
+    is_name && !is_half || word.starts_with(b"UTC") || word.starts_with(b"GMT")
+}
+
+// What may be the zone of time at the end of a text, with the blank before it; empty where none is.
+fn zone_behind(cell: &[u8]) -> &[u8] {
+    let word = cell.rsplit(|byte| *byte == b' ').next().unwrap_or(b"");
+    let place = cell.len().saturating_sub(word.len().saturating_add(1));
+    match cell.split_at_checked(place) {
+        Some((_, zone)) if may_be_zone(word) && word.len() < cell.len() => zone,
+        _ => b"",
+    }
+}
+
+// Appends the forms of a text with a zone of time at its end, and that this is named. Answers whether there are such forms.
+fn push_zoned_forms(alloc: Global, text: &mut Vec<u8>, cell: &[u8]) -> Result<bool, OutOfMemory> {
+    let zone = zone_behind(cell);
+    if zone.is_empty() {
+        return Ok(false);
+    }
+    let words = ": name its form, as by --time-format '";
+    if push_all_forms(alloc, text, cell, zone, words)? == 0 {
+        return Ok(false);
+    }
+    if !NAMES_OF_UTC.contains(&zone) {
+        push(text, ", and its zone, as by --tz Europe/Ljubljana")?;
+    }
+    Ok(true)
 }
 
 /// The clock before a half of the day that is written as no form knows it, and whether this half is the one behind noon.
@@ -225,7 +287,8 @@ pub(crate) fn push_form(alloc: Global, text: &mut Vec<u8>, cell: &[u8]) -> Resul
         push(text, ": write its decimals behind a point")?;
         return Ok(());
     }
-    if push_all_forms(alloc, text, cell, ": name its form, as by --time-format '")? > 0 {
+    let words = ": name its form, as by --time-format '";
+    if push_all_forms(alloc, text, cell, b"", words)? > 0 || push_zoned_forms(alloc, text, cell)? {
         return Ok(());
     }
     if let Some((clock, is_afternoon)) = odd_half(cell) {
@@ -235,10 +298,22 @@ pub(crate) fn push_form(alloc: Global, text: &mut Vec<u8>, cell: &[u8]) -> Resul
             alloc,
             text,
             &own,
+            b"",
             ", and name its form, as by --time-format '",
         )?;
     } else if has_other_digits(cell) {
         push(text, ": if it is one, name its form, by --time-format")?;
     }
+    Ok(())
+}
+
+/// Appends which other form than those that were named a field has.
+pub(crate) fn push_other_form(
+    alloc: Global,
+    text: &mut Vec<u8>,
+    cell: &[u8],
+) -> Result<(), OutOfMemory> {
+    let words = ": name its form too, behind a |, as '";
+    push_all_forms(alloc, text, cell, b"", words)?;
     Ok(())
 }

@@ -5,7 +5,7 @@ use crate::forms::{has_iso_day, has_iso_form, without_blanks};
 use crate::kind::Kind;
 use crate::push::{Field, push, push_field};
 use crate::refusal::Sentence;
-use crate::remedies::{form_of_digits, odd_half, push_form, push_half};
+use crate::remedies::{form_of_digits, odd_half, push_form, push_half, push_other_form};
 use range_plane::OutOfMemory;
 use split_clock::NoMoment;
 use split_times::{NumberFault, TimeFault, iso_moment};
@@ -261,7 +261,9 @@ pub(crate) fn time_sentence(
     forms: &str,
 ) -> Result<Sentence, OutOfMemory> {
     if fault == TimeFault::NotTime && !forms.is_empty() && !is_missing(field.cell) {
-        return form_sentence(alloc, field, forms);
+        let mut sentence = form_sentence(alloc, field, forms)?;
+        push_other_form(alloc, &mut sentence.text, field.cell)?;
+        return Ok(sentence);
     }
     sentence(alloc, field, why_no_time(field.cell, fault))
 }

@@ -25,6 +25,9 @@ const MISSING: [&[u8]; 14] = [
     b"na_character",
 ];
 
+// What databases write so.
+const OF_DATABASES: &[u8] = b"\\N";
+
 // Whether a byte is a sign that may stand around such a word, or for what is missing.
 fn is_around(byte: u8) -> bool {
     matches!(
@@ -81,7 +84,8 @@ fn are_blanks(name: &[u8]) -> bool {
 // Whether a name is one of these words, in whatever signs, or signs or blanks alone.
 fn is_missing(name: &[u8]) -> bool {
     let own = before_signs(behind_signs(name));
-    own.is_empty() || are_blanks(name) || MISSING.iter().any(|word| own.eq_ignore_ascii_case(word))
+    let is_of_database = name == OF_DATABASES;
+    own.is_empty() || is_of_database || are_blanks(name) || MISSING.iter().any(|word| own.eq_ignore_ascii_case(word))
 }
 
 // Says a question for each name that looks as if there were no animal, of animals that have so many records.

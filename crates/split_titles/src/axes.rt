@@ -4,12 +4,13 @@ use crate::named::Role;
 use crate::sides::{EAST, NORTH, is_first};
 use crate::words::{first_word, is_one_word};
 
-// Words for coordinates that are counted to the east.
-const EASTINGS: [&str; 32] = [
-    "easting",
-    "eastings",
-    "rechtswert",
-    "ostwert",
+// Words for coordinates of a plane that are counted to the east, and to the north.
+const EASTINGS: [&str; 4] = ["easting", "eastings", "rechtswert", "ostwert"];
+
+const NORTHINGS: [&str; 4] = ["northing", "northings", "hochwert", "nordwert"];
+
+// Words for longitudes, and for latitudes.
+pub(crate) const LONGITUDES: [&str; 28] = [
     "lon",
     "lons",
     "long",
@@ -40,12 +41,7 @@ const EASTINGS: [&str; 32] = [
     "долгота",
 ];
 
-// Words for coordinates that are counted to the north.
-const NORTHINGS: [&str; 27] = [
-    "northing",
-    "northings",
-    "hochwert",
-    "nordwert",
+pub(crate) const LATITUDES: [&str; 23] = [
     "lat",
     "lats",
     "latitude",
@@ -74,11 +70,15 @@ const NORTHINGS: [&str; 27] = [
 // The first word of a title for coordinates of this axis; that of a side is one where it stands alone.
 fn word_of(title: &[u8], is_first: bool) -> Option<&[u8]> {
     let is_alone = is_one_word(title);
+    let own = if is_first {
+        first_word(title, &EASTINGS).or(first_word(title, &LONGITUDES))
+    } else {
+        first_word(title, &NORTHINGS).or(first_word(title, &LATITUDES))
+    };
     match is_first {
-        true if is_alone => first_word(title, &EASTINGS).or(first_word(title, &EAST)),
-        true => first_word(title, &EASTINGS),
-        false if is_alone => first_word(title, &NORTHINGS).or(first_word(title, &NORTH)),
-        false => first_word(title, &NORTHINGS),
+        true if is_alone => own.or(first_word(title, &EAST)),
+        false if is_alone => own.or(first_word(title, &NORTH)),
+        _ => own,
     }
 }
 

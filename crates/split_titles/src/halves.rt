@@ -114,15 +114,31 @@ const TITLE_WORDS: [&str; 6] = [
     "tageshaelfte",
 ];
 
+/// Whether a text names the half of the day behind noon; none where it names no half.
+pub fn half_named(text: &[u8]) -> Option<bool> {
+    let half = text.trim_ascii();
+    if is_one_of(half, &FORENOONS) {
+        Some(false)
+    } else if is_one_of(half, &AFTERNOONS) {
+        Some(true)
+    } else {
+        None
+    }
+}
+
 /// Whether a text is a half of the day.
 pub fn is_half_of_day(text: &[u8]) -> bool {
-    let half = text.trim_ascii();
-    is_one_of(half, &FORENOONS) || is_one_of(half, &AFTERNOONS)
+    half_named(text).is_some()
 }
 
 /// Whether the words of a title are those of a column of halves of the day.
 pub fn is_of_halves(title: &[u8]) -> bool {
     has_word(title, &TITLE_WORDS) || has_word(title, &["am"]) && has_word(title, &["pm"])
+}
+
+/// Whether the words of a title are those of a column that says which times are behind noon.
+pub fn is_of_afternoon(title: &[u8]) -> bool {
+    has_word(title, &["pm", "ispm"]) && !has_word(title, &["am"])
 }
 
 // A text without blanks behind it, and without one that does not break.

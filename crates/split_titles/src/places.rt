@@ -198,13 +198,3 @@ pub(crate) fn find_places<'a>(titles: &[&[u8]], named: &Named<'a>) -> Result<Pla
         None => usual_places(titles),
     }
 }
-
-/// The columns of the first usual titles of longitude and latitude that are there, each once.
-pub fn usual_degrees_in(titles: &[&[u8]]) -> Option<Pair> {
-    for (longitude, latitude) in DEGREES.iter() {
-        if let Ok(Some(pair)) = usual_pair(titles, longitude, latitude) {
-            return Some(pair);
-        }
-    }
-    None
-}

@@ -83,21 +83,39 @@ fn refuse_units<'a>(
     refuse_unit(titles, pair.second, is_metres)
 }
 
+/// What a text says of the clock of times, against the zone by which they are read.
+#[derive(Clone, Copy, PartialEq, Eq, Debug)]
+pub enum ClockDoubt {
+    /// Another clock than that of UTC, where no zone was named.
+    Local,
+    /// Another clock than that of the zone that was named.
+    Other,
+    /// The clock of UTC, where another zone was named.
+    Utc,
+}
+
+/// What a title, or another text beside times, says of their clock against the zone that was named, or that of UTC where none was.
+pub fn clock_doubt(text: &[u8], zone: Option<&[u8]>) -> Option<ClockDoubt> {
+    match (clock_said(text), zone) {
+        (ClockSaid::Local(_), None) => Some(ClockDoubt::Local),
+        (ClockSaid::Local(word), Some(zone)) if is_other_clock(word, zone) => {
+            Some(ClockDoubt::Other)
+        }
+        (ClockSaid::Utc(_), Some(zone)) if !is_of_utc(zone) => Some(ClockDoubt::Utc),
+        _ => None,
+    }
+}
+
 // Refuses a column of the time whose title says another clock than the one by which it is read.
 fn refuse_clock<'a>(
     titles: &[&[u8]],
     at: usize,
     zone: Option<&'a [u8]>,
 ) -> Result<(), TitleFault<'a>> {
-    match (clock_said(title_at(titles, at)), zone) {
-        (ClockSaid::Local(_), None) => Err(TitleFault::LocalTime { at }),
-        (ClockSaid::Local(word), Some(zone)) if is_other_clock(word, zone) => {
-            Err(TitleFault::OtherClock { at, zone })
-        }
-        (ClockSaid::Utc(_), Some(zone)) if !is_of_utc(zone) => Err(TitleFault::UtcTime {
-            at,
-            zone,
-        }),
+    match (clock_doubt(title_at(titles, at), zone), zone) {
+        (Some(ClockDoubt::Local), _) => Err(TitleFault::LocalTime { at }),
+        (Some(ClockDoubt::Other), Some(zone)) => Err(TitleFault::OtherClock { at, zone }),
+        (Some(ClockDoubt::Utc), Some(zone)) => Err(TitleFault::UtcTime { at, zone }),
         _ => Ok(()),
     }
 }

@@ -4,6 +4,7 @@ use crate::fault::{WordFault, refused};
 use split_clock::is_zone_name;
 use split_refusal::{Kind, Refusal};
 use split_times::{FORM_LIMIT, FormFault, Forms};
+use split_titles::{ClockDoubt, clock_doubt, is_half_of_day};
 use std::alloc::{AllocError, Global};
 
 // The first form of several that is none.
@@ -46,6 +47,14 @@ fn tail_of(form: &[u8]) -> &[u8] {
     }
 }
 
+// What a part of a form between two `%` has behind the sign with which it begins.
+fn behind_sign(part: &[u8]) -> &[u8] {
+    match part {
+        [_sign, behind @ ..] => behind,
+        [] => b"",
+    }
+}
+
 // Whether a text is UTC, or no offset from it.
 fn is_utc(text: &[u8]) -> bool {
     let names = [b"Z".as_slice(), b"UTC", b"GMT", b"+00:00", b"+0000", b"+00"];
@@ -60,21 +69,57 @@ fn may_be_zone(text: &[u8]) -> bool {
     }
 }
 
-// Why a form has what times have of a zone: it says another one than times are read in, or none is named.
+// What the end of a form says of the clock of times against the zone that was named.
+fn doubt_of_tail(tail: &[u8], zone: Option<&[u8]>) -> Option<ClockDoubt> {
+    match zone {
+        Some(name) if is_utc(tail) && name != b"UTC".as_slice() => Some(ClockDoubt::Utc),
+        None if may_be_zone(tail) && !is_utc(tail) => Some(ClockDoubt::Local),
+        _ => None,
+    }
+}
+
+// What a form says of the clock of times against the zone that was named, by its end or by words between its signs.
+fn doubt_of(form: &[u8], zone: Option<&[u8]>) -> Option<ClockDoubt> {
+    for part in form.split(|byte| *byte == b'%') {
+        let doubt = clock_doubt(behind_sign(part), zone);
+        if doubt.is_some() {
+            return doubt;
+        }
+    }
+    doubt_of_tail(tail_of(form), zone)
+}
+
+// Whether a form has a half of the day as a text that stands for itself.
+fn has_half(form: &[u8]) -> bool {
+    form.split(|byte| *byte == b'%').any(|part| is_half_of_day(behind_sign(part)))
+}
+
+// Why a form is refused that is one of days: it says another zone than times are read in, or none is named, or a half of the day
+// stands for itself.
 fn zone_words(
     alloc: Global,
     form: &str,
     zone_name: Option<&str>,
 ) -> Result<Option<String>, AllocError> {
-    let tail = tail_of(form.as_bytes());
-    let words = match zone_name {
-        Some(name) if is_utc(tail) && name != "UTC" => format!(in alloc;
-            "time-format is '{form}', which ends with UTC, and tz is '{name}': leave one of them out"
+    let zone = match zone_name {
+        Some(name) => Some(name.as_bytes()),
+        None => None,
+    };
+    let name = zone_name.unwrap_or("UTC");
+    let words = match doubt_of(form.as_bytes(), zone) {
+        Some(ClockDoubt::Utc) => format!(in alloc;
+            "time-format is '{form}', which says UTC, and tz is '{name}': leave one of them out"
         )?,
-        None if may_be_zone(tail) && !is_utc(tail) => format!(in alloc;
-            "time-format is '{form}', which may end with a zone of time, and no form has one: name it, as by --tz Europe/Ljubljana"
+        Some(ClockDoubt::Other) => format!(in alloc;
+            "time-format is '{form}', which says another clock than tz='{name}': name its zone, by --tz"
         )?,
-        _ => return Ok(None),
+        Some(ClockDoubt::Local) => format!(in alloc;
+            "time-format is '{form}', which may have a zone of time, and no form has one: name it, as by --tz Europe/Ljubljana"
+        )?,
+        None if has_half(form.as_bytes()) => format!(in alloc;
+            "time-format is '{form}', in which a half of the day stands for itself: write %I for the hour and %p for the half"
+        )?,
+        None => return Ok(None),
     };
     Ok(Some(words))
 }
