@@ -457,10 +457,10 @@ fn refuse_unread(
 ) -> Result<(), Refusal>
     ensures { IfErr result IsOfNoFix }
 {
-    refuse_halves(alloc, wish, export, unread)?;
     if let Some((column, what)) = first_passed(known_of(export, wish), unread) {
         return Err(passed_refusal(alloc, export, wish, unread, column, what));
     }
+    refuse_halves(alloc, wish, export, unread)?;
     refuse_systems(alloc, wish, export, unread)?;
     refuse_units(alloc, export, unread)?;
     refuse_summers(alloc, wish, export, unread)?;

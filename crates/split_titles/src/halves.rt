@@ -1,6 +1,6 @@
 // Halves of the day, as they stand behind clocks of 12 hours, or in a column of their own.
 
-use crate::words::{has_word, is_one_of, is_same};
+use crate::words::{has_word, is_one_of, is_one_word, is_same};
 
 // Words for the half before noon, and for the one behind it.
 const FORENOONS: [&str; 22] = [
@@ -138,7 +138,8 @@ pub fn is_of_halves(title: &[u8]) -> bool {
 
 /// Whether the words of a title are those of a column that says which times are behind noon.
 pub fn is_of_afternoon(title: &[u8]) -> bool {
-    has_word(title, &["pm", "ispm"]) && !has_word(title, &["am"])
+    let is_asked = is_one_word(title) || has_word(title, &["is"]);
+    has_word(title, &["ispm"]) || has_word(title, &["pm"]) && is_asked
 }
 
 // A text without blanks behind it, and without one that does not break.

@@ -39,8 +39,13 @@ MERCATOR = [(1580737, 5828555), (1586436, 5830505), (1578878, 5826735), (1584087
 
 def told(places, degrees=PLACES):
     """A table of fixes at these places, beside longitude and latitude."""
+    return beside_metres(places, "lon,lat", degrees)
+
+
+def beside_metres(places, titles, degrees=PLACES):
+    """A table of fixes at these places, beside longitude and latitude of these titles."""
     rows = (f"a,{second},{east},{north},{beside}\n" for second, ((east, north), beside) in enumerate(zip(places, degrees)))
-    return f"id,second,x,y,lon,lat\n{''.join(rows)}".encode()
+    return f"id,second,x,y,{titles}\n{''.join(rows)}".encode()
 
 
 def taken(places):
@@ -118,13 +123,35 @@ REFUSED = [
     ("sides that are none", [], b"id,date,lon,lat,bank\na,2024-05-01,0.5,51.5,W\na,2024-05-02,0.5,51.5,W\n", None, "if they lie there, write them with a minus and remove it, and else write its values otherwise"),
     ("half a time", ["--time", "day,hour"], b"id,day,hour,x,y\na,2024-05-01,,1000,2000\n", 1, "there is no day hour"),
     ("no time", [], b"id,timestamp,x,y\na,  ,1000,2000\n", 1, "there is no timestamp"),
+    *((f"degrees with their side, {cell}", [], f"id,date,lon,lat\na,2024-05-01,{cell},46.1\n".encode(), 1,
+       f"lon is '{cell}' and not a number of up to 12 digits: write degrees as numbers alone, with a minus before those in the south or the west")
+      for cell in ("14.5E", "14.5 W", "14.5°", "14.5° E", "14.5°E", "-14.5o")),
+    *((f"a time with a zone, {cell}", [], f"id,date,x,y\na,{cell},1000,2000\n".encode(), 1, f"date is '{cell}' and not a time such as 2024-05-01 00:30:04: name its form, as by --time-format {form}")
+      for cell, form in (("2024-05-01 10:00 UTC", "'%Y-%m-%d %H:%M UTC'"), ("13.05.2024 10:00:00 GMT", "'%d.%m.%Y %H:%M:%S GMT'"),
+                         ("2024-05-01 10:00:00 CEST", "'%Y-%m-%d %H:%M:%S CEST', and its zone, as by --tz Europe/Ljubljana"),
+                         ("13 May 2024 10:00:00 GMT+0200", "'%d %b %Y %H:%M:%S GMT+0200', and its zone, as by --tz Europe/Ljubljana"))),
+    ("a clock of digits behind a day", ["--time", "date,clock"], b"id,date,clock,x,y\na,2024-05-01,103000,1000,2000\n", 1,
+     "date clock is '2024-05-01 103000' and not a time such as 2024-05-01 00:30:04: name its form, as by --time-format '%Y-%m-%d %H%M%S'"),
+    ("a time of another form than that which was named", ["--time-format", "%d.%m.%Y"], b"id,date,x,y\na,13.05.2024,1000,2000\na,2024-05-14 10:30,1000,2000\n", 2,
+     "date is '2024-05-14 10:30' and not a time of the form %d.%m.%Y: name its form too, behind a |, as '%Y-%m-%d %H:%M'"),
     ("digits that have lost a zero", ["--time", "date,time", "--time-format", "%Y-%m-%d %H%M"], b"id,date,time,x,y\na,2024-05-01,130,1000,2000\n", 1, "not a time of the form %Y-%m-%d %H%M"),
     ("a day without its zero", ["--time-format", "%d%m%y"], b"id,date,x,y\na,10524,1000,2000\n", 1, "not a time of the form %d%m%y"),
     ("classes as numbers with decimals", [], b"id,date,x,y,argos-lc\na,2024-05-01,1000,2000,3.0\na,2024-05-02,1030,2040,b\n", None, "fixes are of Argos"),
     ("a form with Z beside another zone", ["--time-format", "%Y-%m-%dT%H:%M:%SZ", "--tz", "Europe/Ljubljana"], b"id,date,x,y\na,2024-05-01T00:30:04Z,1000,2000\n", None,
-     "time-format is '%Y-%m-%dT%H:%M:%SZ', which ends with UTC, and tz is 'Europe/Ljubljana': leave one of them out"),
-    ("a form with a zone that is not named", ["--time-format", "%Y-%m-%d %H:%M CET"], b"id,date,x,y\na,2024-05-01 00:30 CET,1000,2000\n", None, "which may end with a zone of time, and no form has one: name it, as by --tz"),
-    ("a form with an offset", ["--time-format", "%d.%m.%Y|%Y-%m-%d %H:%M+02:00"], b"id,date,x,y\na,2024-05-01 00:30+02:00,1000,2000\n", None, "time-format is '%Y-%m-%d %H:%M+02:00', which may end with a zone"),
+     "time-format is '%Y-%m-%dT%H:%M:%SZ', which says UTC, and tz is 'Europe/Ljubljana': leave one of them out"),
+    ("a form with a zone that is not named", ["--time-format", "%Y-%m-%d %H:%M CET"], b"id,date,x,y\na,2024-05-01 00:30 CET,1000,2000\n", None, "which may have a zone of time, and no form has one: name it, as by --tz"),
+    *((f"a form that says a clock, {form}", ["--time-format", form, *options], b"id,date,x,y\na,1,1000,2000\n", None, f"time-format is '{form}', which {says}")
+      for form, options, says in (
+          ("%a %d %Y %m %H:%M:%S GMT+0200", [], "may have a zone of time"), ("%Y-%m-%d %H:%M (MESZ)", [], "may have a zone of time"),
+          ("%Y-%m-%d %H:%M UTC+2", [], "may have a zone of time"), ("%Y-%m-%d %H:%M UTC+2", ["--tz", "Etc/GMT-3"], "says another clock than tz='Etc/GMT-3'"),
+          ("%Y-%m-%d %H:%M UTC", ["--tz", "Europe/Vienna"], "says UTC, and tz is 'Europe/Vienna'"))),
+    *((f"a half of the day that stands for itself, {form}", ["--time-format", form], b"id,date,x,y\na,2024-05-01 10:30 PM,1000,2000\n", None,
+       f"time-format is '{form}', in which a half of the day stands for itself: write %I for the hour and %p for the half")
+      for form in ("%Y-%m-%d %H:%M PM", "%Y-%m-%d %H:%M:%S am", "%Y-%m-%d %H:%M p.m.")),
+    *((f"times of UTC under {title}", ["--tz", "Europe/Vienna", "--time", title], f"id,{title},x,y\na,2024-05-01 10:30+02:00,1000,2000\na,2024-05-01T10:30Z,1000,2000\n".encode(), None,
+       f"column 2 '{title}' says another clock than that of UTC, and the time of record 2 ends with Z, as those of UTC do: rename the column, or write the times of that clock "
+       "without a Z, and name its zone, as by --tz Europe/Ljubljana") for title in ("local_time", "time (CET)", "timestamp_local", "Ortszeit")),
+    ("a form with an offset", ["--time-format", "%d.%m.%Y|%Y-%m-%d %H:%M+02:00"], b"id,date,x,y\na,2024-05-01 00:30+02:00,1000,2000\n", None, "time-format is '%Y-%m-%d %H:%M+02:00', which may have a zone"),
     ("a zone under a title of another language", [], b"id,date,x,y,huso\na,2024-05-01,500000,5000000,30\na,2024-05-02,500030,5000040,31\n", None, "column 5 'huso' has several values"),
     ("classes of another title, behind LC", [], b"id,date,x,y,Quality\na,2024-05-01,1000,2000,LC3\na,2024-05-02,1030,2040,lcb\n", None, "column 5 'Quality' may have Argos classes"),
     ("no fix of a class", ["--argos-class", "9"], b"id,date,x,y,argos-lc\na,2024-05-01,1000,2000,3\na,2024-05-02,1030,2040,B\na,2024-05-02,,,B\n", None, "no fix is left; left out by reason: coordinates 1, class 2"),
@@ -153,6 +180,9 @@ REFUSED = [
     ("two columns of animals", [], b"animal,id,date,x,y\nfox,1,2024-05-01,1000,2000\nfox,2,2024-05-02,1030,2040\n", None,
      "name one, as by --animal animal, or both, where one has the animals that the other has not, as by --animal animal,id"),
     ("zones of metres that change", [], b"id,date,x,y,UTMzone\na,2024-05-01,500000,5000000,33N\na,2024-05-02,500030,5000040,34N\n", None, "column 5 'UTMzone' has several values"),
+    ("a letter of a side beside degrees", [], b"id,date,lon,lat,V5\na,2024-05-01,0.5,51.5,S\na,2024-05-02,0.5,51.5,S\n", None, "column 5 'V5' has S or W beside degrees above 0"),
+    ("a letter of a side under its title", [], b"id,date,lon,lat,note,lat_dir\na,2024-05-01,0.5,51.5,1,S\na,2024-05-02,0.5,51.5,2,S\n", None, "column 6 'lat_dir' has S or W beside degrees above 0"),
+    ("letters of two sides", [], b"id,date,lon,lat,note,half\na,2024-05-01,0.5,51.5,1,E\na,2024-05-02,0.5,51.5,2,W\n", None, "column 6 'half' has S or W beside degrees above 0"),
     ("a hemisphere beside degrees", [], b"id,date,lon,lat,E/W\na,2024-05-01,0.5,51.5,E\na,2024-05-02,0.5,51.5,W\n", None, "column 5 'E/W' has S or W beside degrees above 0"),
     *((f"a side in words beside degrees, {one}", [], f"id,date,lon,lat,side\na,2024-05-01,15.8,46.3,{one}\na,2024-05-02,15.8,46.3,{other}\n".encode(), None,
        "column 5 'side' has S or W beside degrees above 0, and is not read: if they lie there, write them with a minus and remove it, and else write its values otherwise")
@@ -168,6 +198,9 @@ REFUSED = [
            ("Mercator", [], MERCATOR), ("feet", [], [(round(east / 0.3048), round(north / 0.3048)) for east, north in UTM]), ("the other way round", [], [(north, east) for east, north in UTM]),
            ("rows", [], [(row, row) for row in range(6)]), ("kilometres", ["--unit", "dm"], [(east / 1000, north / 1000) for east, north in UTM]),
            ("two zones", [], [(east - 462000 * (place % 2), north) for place, (east, north) in enumerate(UTM)]))),
+    *((f"fixes that lie otherwise by {titles}", [], beside_metres(MERCATOR, titles), None,
+       f"fixes lie otherwise by column 5 '{titles.split(',')[0]}' and column 6 '{titles.split(',')[1]}': name these, by --lon and --lat")
+      for titles in ("decimalLongitude,decimalLatitude", "lon_dd,lat_dd", "gps_lon,gps_lat", "Länge,Breite", "GPS Longitude [°],GPS Latitude [°]", "location.long,location.lat")),
     ("halves of the day", [], b"id,time,x,y,half\na,2024-05-01 01:00,1000,2000,AM\na,2024-05-01 01:30,1030,2040,pm\n", None, "column 5 'half' has halves of the day"),
     *((f"halves of the day as {one!r} and {other!r} under {title}", [], f"id,time,x,y,{title}\na,2024-05-01 01:00,1000,2000,{one}\na,2024-05-01 01:30,1030,2040,{other}\n".encode(), None,
        f"column 5 '{title}' has halves of the day, and is not read: write them AM and PM and join it to the time") for title, one, other in (
@@ -436,6 +469,20 @@ READ = [
      {"a": "a,1714521600,538716,5094169\na,1714608000,538716,5094169\n"}),
     ("hours and halves of the day that are joined", ["--time", "date,hour,min,ampm", "--time-format", "%Y-%m-%d %I %M %p"], b"id,date,hour,ampm,min,x,y\na,2024-05-01,3,AM,30,1000,2000\na,2024-05-01,4,PM,5,1030,2040\n",
      ["times are read as %Y-%m-%d %I %M %p, in UTC", *LINES, columns("id, date, hour, min, ampm, x, y", "0.030 by 0.040", ", from 2024-05-01 to 2024-05-01")], {"a": "a,1714534200,1000,2000\na,1714579500,1030,2040\n"}),
+    *((f"halves of the day that clocks say too, {title}", [], f"id,time,x,y,{title}\na,2024-05-01 00:30,1000,2000,{one}\na,2024-05-01 12:30,1030,2040,{other}\na,2024-05-01 23:30,,,\n".encode(),
+       ["1 records have no coordinates: left out", *LINES, columns("id, time, x, y", "0.030 by 0.040", ", from 2024-05-01 to 2024-05-01"), f"not read: {title}"],
+       {"a": "a,1714523400,1000,2000\na,1714566600,1030,2040\n"}) for title, one, other in (("half", "AM", "pm"), ("AM/PM", "A", "P"), ("x5", "vorm.", "nachm."), ("is_pm", "0", "1"), ("isPM", "false", "TRUE"))),
+    ("halves of the day that clocks of a zone say too", ["--tz", "Pacific/Auckland"], b"id,time,x,y,half\na,2024-05-01 11:59,1000,2000,AM\na,2024-05-01 12:00,1030,2040,PM\n",
+     ["times are read as ISO text, in Pacific/Auckland", *LINES, columns("id, time, x, y", "0.030 by 0.040", ", from 2024-05-01 to 2024-05-01"), "not read: half"],
+     {"a": "a,1714521540,1000,2000\na,1714521600,1030,2040\n"}),
+    *((f"degrees beside metres that are not those of fixes, {titles}", [], beside_metres(MERCATOR, titles),
+       [*LINES, columns("id, second, x, y", "10.976 by 13.586", ", from second 0 to 5"), f"not read: {titles.replace(',', ', ')}"], taken(MERCATOR))
+      for titles in ("release_lon,release_lat", "Capture longitude,Capture latitude", "nest_lon,nest_lat", "lon_a,lat_b", "Länge,Höhe")),
+    *((f"letters that are no sides, {title}", ["--zone", "33N"], f"id,time,lon,lat,note,{title}\na,2024-05-01,15.5,46,3,{one}\na,2024-05-02,15.5,46,4,{other}\n".encode(),
+       ["longitude and latitude are projected into zone 33N; fixes by zone: 33N 2", "coordinates are rounded to whole metres, which moves a fix by at most 0.14 m",
+        columns("id, time, lon, lat", "0.000 by 0.000", " near 15.5 E 46.0 N, from 2024-05-01 to 2024-05-02"), f"not read: note, {title}"],
+       {"a": "a,1714521600,538716,5094169\na,1714608000,538716,5094169\n"})
+      for title, one, other in (("Geschlecht", "W", "W"), ("sex", "W", "W"), ("treatment", "S", "S"), ("observer", "S", "S"), ("wind_dir", "W", "W"), ("study", "S", "N"), ("team", "S", "S"))),
     ("columns that say nothing of halves of the day", [], b"id,time,x,y,country,band,daypart,nest,amp,pm25\n"
      b"a,2024-05-01,1000,2000,DE,FM,morning,12a,1,3\na,2024-05-02,1030,2040,DE,FM,evening,7p,2,4\n",
      [*LINES, columns("id, time, x, y", "0.030 by 0.040", ", from 2024-05-01 to 2024-05-02"), "not read: country, band, daypart, nest, amp, pm25"],
@@ -443,6 +490,9 @@ READ = [
     ("columns that say nothing of hours beside days", [], b"id,date,x,y,HR (bpm),x_std,hour\na,2024-05-01,1000,2000,80,1.5,12\na,2024-05-02,1030,2040,95,2.5,12\n",
      [*LINES, columns("id, date, x, y", "0.030 by 0.040", ", from 2024-05-01 to 2024-05-02"), "not read: HR (bpm), x_std, hour"],
      {"a": "a,1714521600,1000,2000\na,1714608000,1030,2040\n"}),
+    ("a name that databases write for none", [], f"{TITLES}\n\\N,0,1000,2000\n\\N,60,1030,2040\nv,60,1030,2040\nv,90,1030,2040\n".encode(),
+     ["animal '\\N' has 2 records: are they of no animal?", *LINES, "columns: animal, second, easting, northing; 2 animals, box 0.030 by 0.040 km, from second 0 to 90", "animal '\\N' is named _N"],
+     {"_N": "_N,0,1000,2000\n_N,60,1030,2040\n", "v": "v,60,1030,2040\nv,90,1030,2040\n"}),
     ("a name that may be none", [], f"{TITLES}\nNA,0,1000,2000\nNA,60,1030,2040\nNA,90,1030,2040\nv,60,1030,2040\n".encode(),
      ["animal 'NA' has 3 records: are they of no animal?", *LINES, "columns: animal, second, easting, northing; 2 animals, box 0.030 by 0.040 km, from second 0 to 90"],
      {"NA": "NA,0,1000,2000\nNA,60,1030,2040\nNA,90,1030,2040\n", "v": "v,60,1030,2040\n"}),
