@@ -31,6 +31,7 @@ use crate::predeployment::tell_predeployment;
 use crate::read::{read, refuse_maker, refuse_other_animals, shown};
 use crate::steps::{counts_by, fates_by, fixes_by, leave_out_by, names_by, records_by, tracks_by};
 use crate::times::form_of_times;
+use crate::unknown_words::tell_unknown_words;
 use crate::wish::Wish;
 use indexmap::IndexSet;
 use range_plane::OutOfMemory;
@@ -469,5 +470,6 @@ pub fn split_export<P: Progress>(
     tell_other_points(alloc, &mut said, wish)?;
     tell_unmet(alloc, &mut said, bytes, asked, wish, &export)?;
     tell_predeployment(alloc, &mut said, &export)?;
+    tell_unknown_words(alloc, &mut said, wish, &export)?;
     split_read(alloc, asked, wish, &form, export, said)
 }

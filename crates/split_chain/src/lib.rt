@@ -18,6 +18,7 @@ mod summers;
 mod systems;
 mod times;
 mod units;
+mod unknown_words;
 mod wish;
 
 pub use chain::{Split, split_export};

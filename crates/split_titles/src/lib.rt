@@ -27,6 +27,7 @@ mod sides;
 mod summers;
 mod unit_columns;
 mod units;
+mod unknown;
 mod usual;
 mod words;
 
@@ -45,5 +46,6 @@ pub use said::{ClockDoubt, clock_doubt};
 pub use sentences::{fault_text, push_shown, start_of_sign};
 pub use summers::is_of_summer;
 pub use unit_columns::{UnitNamed, is_of_units, unit_named};
+pub use unknown::{Subject, unknown_word};
 pub use usual::{COLUMN_LIMIT, is_of_animal};
 pub use words::{first_word, has_word};
