@@ -140,6 +140,26 @@ print(sys.argv[1], len(areas), *(f"{number:.1f}" for number in [*percents, last]
     "$splitter" --max-speed 2 --into slow trials/centres.csv 2>said
     holds 'five fixes are too fast' grep -qx 'split: 5 fixes are faster than 2 m/s: left out' said
     holds 'it is asked whose the others are' grep -q '^split: 595 .* fox lie 19 km .*: are they hers?$' said
+
+    # Tables that look right.
+    awk -F, -v OFS=, 'NR > 601 { $3 += 33 * (NR - 601) } { print }' examples/fox.csv >leaves.csv
+    awk -F, -v OFS=, 'NR > 1 { $1 = "Canis" } NR == 1 || FNR > 1 { print }' examples/fox.csv examples/badger.csv >one_name.csv
+    awk -F, -v OFS=, 'NR > 1 && FNR == NR { $1 = "f\303\266x" } NR == 1 || FNR > 1 { print }' examples/fox.csv examples/fox.csv \
+        >two_names.csv
+    awk -F, -v OFS=, 'FNR != NR { $2 += 3600 } NR == 1 || FNR > 1 { print }' examples/fox.csv examples/fox.csv >an_hour.csv
+    awk -F, -v OFS=, 'NR > 1 { $2 = sprintf("%.0f", $2 + 2300000000) } { print }' examples/fox.csv >to_come.csv
+    awk -F, 'NR == 1 { print "animal,second,longitude,latitude" }
+        NR > 1 { printf "%s,%s,%.2f,%.2f\n", $1, $2, $3 / 80000 + 7, $4 / 111000 }' examples/fox.csv >two_decimals.csv
+    awk -F, -v OFS=, 'NR > 1 { $3 += 1200000 } { print }' examples/fox.csv >mercator.csv
+    awk -F, -v OFS=, 'NR == 1 { print } NR > 1 { print $1, $2, $4, $3 }' examples/fox.csv >exchanged.csv
+    for table in leaves one_name two_names an_hour to_come two_decimals mercator exchanged; do
+        "$splitter" --into "asked/$table" $table.csv 2>said
+        holds "nothing is asked of the table $table" [ "$?-$(grep -c '?$' said)" = 0-0 ]
+    done
+    for table in mercator exchanged; do
+        "$splitter" --zone 33N --into "asked/33N/$table" $table.csv 2>said
+        holds "the table $table is refused in a zone" grep -q '^split: areas of fox are .* % too great on this grid: ' said
+    done
 fi
 "$tools/tests/by_definition.py" examples/fox.csv examples/badger.csv | sed -n 's/^overlap,.*,\([0-9]*\),[0-9]*$/\1/p' >counts
 holds "the guide's overlaps" grep -q "has $(sed -n 1p counts) of 1,200 fixes of the fox .* and $(sed -n 2p counts) of 800 of" \
