@@ -1,95 +1,9 @@
 // The sides of the Earth that texts of columns that are not read say.
 
+use split_titles::dictionary::{
+    EASTS, HEMISPHERES as BEHIND, NORTHS, PLACES_AND_GROUPS as PLACES, SOUTHS, WESTS,
+};
 use split_titles::has_word;
-
-// Words for sides, beside their letters.
-const NORTHS: [&str; 9] = [
-    "north",
-    "northern",
-    "nord",
-    "norte",
-    "norden",
-    "noord",
-    "nördlich",
-    "sever",
-    "pohjoinen",
-];
-
-const SOUTHS: [&str; 11] = [
-    "south", "southern", "sud", "süd", "sued", "süden", "südlich", "sur", "sul", "zuid", "syd",
-];
-
-const EASTS: [&str; 10] = [
-    "east", "eastern", "est", "este", "leste", "ost", "osten", "oost", "östlich", "vzhod",
-];
-
-const WESTS: [&str; 10] = [
-    "west", "western", "westen", "westlich", "ouest", "oeste", "ovest", "vest", "väst", "zahod",
-];
-
-// Words that stand behind one for a side.
-const BEHIND: [&str; 8] = [
-    "hemisphere",
-    "hemi",
-    "hemisphäre",
-    "latitude",
-    "longitude",
-    "lat",
-    "lon",
-    "degrees",
-];
-
-// Words of titles of places and groups, which are called by a side too, as are slopes.
-const PLACES: [&str; 48] = [
-    "site",
-    "sites",
-    "area",
-    "areas",
-    "region",
-    "regions",
-    "plot",
-    "plots",
-    "population",
-    "populations",
-    "subpopulation",
-    "pop",
-    "herd",
-    "herds",
-    "pack",
-    "packs",
-    "group",
-    "groups",
-    "colony",
-    "study",
-    "habitat",
-    "camp",
-    "transect",
-    "block",
-    "sector",
-    "district",
-    "county",
-    "province",
-    "state",
-    "country",
-    "locality",
-    "place",
-    "park",
-    "reserve",
-    "valley",
-    "slope",
-    "aspect",
-    "exposure",
-    "stratum",
-    "strata",
-    "name",
-    "label",
-    "comment",
-    "comments",
-    "notes",
-    "gebiet",
-    "standort",
-    "zona",
-];
 
 // A side of the Earth.
 #[derive(Clone, Copy, PartialEq, Eq)]
