@@ -11,12 +11,20 @@ titles_of_doubt <- c(
 )
 # Words of titles that say so too, and words and titles beside which one of the first says nothing.
 words_of_marks <- c(
-  "outlier", "outliers", "outlying", "isoutlier", "isoutliers", "valid", "isvalid", "invalid", "isinvalid", "visible", "isvisible",
-  "invisible", "ausreisser", "ausrei\u00dfer", "valide", "valido", "v\u00e1lido", "aberrant"
+  "outlier", "outliers", "outlying", "isoutlier", "isoutliers", "valid", "isvalid", "invalid", "isinvalid", "visible",
+  "isvisible", "invisible", "ausreisser", "ausrei\u00dfer", "valide", "valido", "aberrant", "valida", "invalido", "invalida",
+  "invalide", "gultig", "ungultig", "gueltig", "ungueltig", "avvikare", "avvikande", "avviker", "avvikende", "uitbijter",
+  "uitbijters", "uitschieter", "uitschieters", "geldig", "ongeldig", "gyldig", "ugyldig", "giltig", "ogiltig", "platny",
+  "platna", "platne", "neplatny", "neplatna", "neplatne", "wazny", "wazne", "niewazny", "niewazne", "veljaven", "veljavna",
+  "veljavno", "neveljaven", "neveljavna", "osamelec", "odlehla", "odlehly", "odlahla", "odstajacy", "odstajaca", "kiugro",
+  "ervenyes", "ervenytelen", "poikkeava", "aykiri", "gecerli", "gecersiz", "aberrante", "atipico", "atipica", "anomalo",
+  "anomala", "valabil", "\u0432\u044b\u0431\u0440\u043e\u0441", "\u0432\u044b\u0431\u0440\u043e\u0441\u044b",
+  "\u0434\u0435\u0438\u0441\u0442\u0432\u0438\u0442\u0435\u043b\u0435\u043d"
 )
 words_of_grids <- c(
-  "zone", "zones", "zona", "zonas", "zonen", "huso", "fuso", "fuseau", "utm", "utmz", "utmzone", "zonenumber", "zoneletter", "mgrs",
-  "epsg", "srid", "crs", "srs"
+  "zone", "zones", "zona", "zonas", "zonen", "huso", "fuso", "fuseau", "utm", "utmz", "utmzone", "zonenumber", "zoneletter",
+  "mgrs", "strefa", "pasmo", "cona", "pojas", "\u043f\u043e\u044f\u0441", "\u0437\u043e\u043d\u0430", "dilim", "dilimi", "fus",
+  "sone", "vyohyke", "josla", "juosta", "\u03b6\u03c9\u03bd\u03b7", "epsg", "srid", "crs", "srs"
 )
 words_of_satellites <- c("sat", "sats", "satellite", "satellites", "sv", "svs")
 no_marks <- c("argos-valid-location-algorithm", "argos-valid-location-manual", "outlier-comments")
@@ -38,7 +46,26 @@ say_which_count <- function(titles) {
 have_word <- function(titles, words) {
   titles <- enc2utf8(readable(titles))
   found <- regmatches(titles, gregexpr("[A-Z]*[a-z\u00c0-\u1fff\u3000-\uffff]+|[A-Z]+|[0-9]+", titles, perl = TRUE))
-  vapply(found, function(own) any(in_small(own) %in% words), NA)
+  vapply(found, function(own) any(without_accents(own) %in% words), NA)
+}
+
+# The plain letters of those from U+00C0 to U+017F; a point for one that stays.
+plain_latin <- paste0(
+  "aaaaaa.ceeeeiiii.nooooo.ouuuuy..aaaaaa.ceeeeiiii.nooooo.ouuuuy.y",
+  "aaaaaaccccccccddddeeeeeeeeeegggggggghhhhiiiiiiiiii..jjkk.lllllll",
+  "lllnnnnnn...oooooo..rrrrrrssssssssttttttuuuuuuuuuuuuwwyyyzzzzzz."
+)
+
+# Words in small letters without their accents: Latin, Greek and Cyrillic ones.
+without_accents <- function(words) {
+  letters <- strsplit(plain_latin, "")[[1]]
+  at <- which(letters != ".")
+  words <- chartr(intToUtf8(at + 0xbf), paste(letters[at], collapse = ""), in_small(words))
+  words <- chartr("\u0218\u0219\u021a\u021b", "sstt", words)
+  words <- chartr(intToUtf8(c(0x391:0x3a1, 0x3a3:0x3a9, 0x410:0x42f)), intToUtf8(c(0x3b1:0x3c1, 0x3c3:0x3c9, 0x430:0x44f)), words)
+  words <- chartr("\u03ac\u03ad\u03ae\u03af\u03cc\u03cd\u03ce\u03c2\u0439\u0401\u0451",
+                  "\u03b1\u03b5\u03b7\u03b9\u03bf\u03c5\u03c9\u03c3\u0438\u0435\u0435", words)
+  gsub("[\u0300-\u036f]", "", words, perl = TRUE)
 }
 
 # Whether a word of a title says that a column may have marks.

@@ -16,6 +16,9 @@ use split_clock::Clock;
 use split_export::{Export, Texts, look_at_unread};
 use split_reading::{Row, Told};
 use split_refusal::{Kind, Refusal, sign_of};
+use split_titles::dictionary::{
+    CLOCK_WORDS, HOURS as HOUR_WORDS, OFFSET_WORDS, OTHER_TIMES, TIMES as TIME_WORDS,
+};
 use split_titles::{comes_to, has_word, is_of_places, not_read, trimmed};
 use std::alloc::{AllocError, Global};
 
@@ -25,118 +28,38 @@ pub(crate) const DAY: i128 = 86_400;
 // The zone that every clock without a name is of.
 pub(crate) const UTC: &str = "UTC";
 
-// Titles of hours that are words of other things too, and words of titles of hours.
-const HOURS: [&[u8]; 6] = [b"std", b"ora", b"hr", b"hrs", b"uhr", b"hh"];
-
-const HOUR_WORDS: [&str; 11] = [
-    "hour", "hours", "hora", "horas", "heure", "heures", "stunde", "stunden", "uhrzeit", "hhmm",
-    "hhmmss",
+// Titles of hours whose words are those of other things too.
+const HOURS: [&[u8]; 18] = [
+    b"std",
+    b"ora",
+    b"\xC3\xB3ra",
+    b"\xC3\x93ra",
+    b"hr",
+    b"hrs",
+    b"uhr",
+    b"hh",
+    b"time-(h)",
+    b"time-h",
+    b"time-(hours)",
+    b"zeit-(h)",
+    b"temps-(h)",
+    b"tiempo-(h)",
+    b"tempo-(h)",
+    b"tijd-(u)",
+    b"tid-(h)",
+    b"czas-(h)",
 ];
 
-// Words of titles of times that are not those of fixes: of animals and devices, of the sun, and of records.
-const OTHER_TIMES: [&str; 46] = [
-    "deploy",
-    "deployed",
-    "deployment",
-    "release",
-    "released",
-    "capture",
-    "captured",
-    "capturing",
-    "tagged",
-    "tagging",
-    "marked",
-    "collared",
-    "collaring",
-    "ringed",
-    "ringing",
-    "birth",
-    "born",
-    "death",
-    "died",
-    "mortality",
-    "start",
-    "started",
-    "begin",
-    "end",
-    "ended",
-    "stop",
-    "first",
-    "last",
-    "next",
-    "previous",
-    "prev",
-    "on",
-    "off",
-    "sunrise",
-    "sunset",
-    "dawn",
-    "dusk",
-    "moonrise",
-    "moonset",
-    "created",
-    "modified",
-    "updated",
-    "update",
-    "uploaded",
-    "imported",
-    "downloaded",
-];
-
-// Words of titles of the zone of times: such as name UTC, such as name a zone of time, and such as do so two by two.
+// Words of titles that name UTC.
 const UTC_WORDS: [&str; 2] = ["utc", "gmt"];
-
-const CLOCK_WORDS: [&str; 8] = [
-    "tz",
-    "tzone",
-    "timezone",
-    "timezones",
-    "zeitzone",
-    "utcoffset",
-    "gmtoffset",
-    "tzoffset",
-];
-
-const TIME_WORDS: [&str; 9] = [
-    "time", "zeit", "horaire", "horario", "horário", "horaria", "orario", "oraria", "tid",
-];
-
-// Words that say beside `UTC` that a column has an offset.
-const OFFSET_WORDS: [&str; 27] = [
-    "offset",
-    "off",
-    "diff",
-    "difference",
-    "shift",
-    "delta",
-    "decalage",
-    "décalage",
-    "versatz",
-    "verschiebung",
-    "differenz",
-    "desfase",
-    "h",
-    "hr",
-    "hrs",
-    "hours",
-    "std",
-    "stunden",
-    "heures",
-    "horas",
-    "ore",
-    "min",
-    "mins",
-    "minutes",
-    "sec",
-    "secs",
-    "seconds",
-];
 
 // The title that Movebank has for the zone of `study-local-timestamp`, beside times of UTC.
 const OF_LOCAL_TIMES: &[u8] = b"study-timezone";
 
 // Titles of the zone of times and of zones of a grid.
-const OFFSETS: [&[u8]; 8] = [
+const OFFSETS: [&[u8]; 10] = [
+    b"time-offset",
+    b"offset-time",
     b"utc-offset",
     b"utcoffset",
     b"timezone",

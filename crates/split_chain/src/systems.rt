@@ -26,7 +26,7 @@ const SYSTEM_WORDS: [&str; 8] = [
     "sref",
 ];
 
-pub(crate) const ZONE_WORDS: [&str; 14] = [
+pub(crate) const ZONE_WORDS: [&str; 28] = [
     "zone",
     "zones",
     "zona",
@@ -41,6 +41,20 @@ pub(crate) const ZONE_WORDS: [&str; 14] = [
     "zonenumber",
     "zoneletter",
     "mgrs",
+    "strefa",
+    "pásmo",
+    "cona",
+    "pojas",
+    "пояс",
+    "зона",
+    "dilim",
+    "dilimi",
+    "fus",
+    "sone",
+    "vyöhyke",
+    "josla",
+    "juosta",
+    "ζώνη",
 ];
 
 // How the name of a zone may begin.

@@ -1,131 +1,10 @@
 // The sides of the Earth that texts of columns that are not read say.
 
+use split_titles::dictionary::{
+    EASTS, HEMISPHERES as BEHIND, LATITUDES, LONGITUDES, NORTHS, NO_SIDES,
+    PLACES_AND_GROUPS as PLACES, SIDE_TITLES, SOUTHS, WESTS,
+};
 use split_titles::has_word;
-
-// Words for sides, beside their letters.
-const NORTHS: [&str; 9] = [
-    "north",
-    "northern",
-    "nord",
-    "norte",
-    "norden",
-    "noord",
-    "nördlich",
-    "sever",
-    "pohjoinen",
-];
-
-const SOUTHS: [&str; 11] = [
-    "south", "southern", "sud", "süd", "sued", "süden", "südlich", "sur", "sul", "zuid", "syd",
-];
-
-const EASTS: [&str; 10] = [
-    "east", "eastern", "est", "este", "leste", "ost", "osten", "oost", "östlich", "vzhod",
-];
-
-const WESTS: [&str; 10] = [
-    "west", "western", "westen", "westlich", "ouest", "oeste", "ovest", "vest", "väst", "zahod",
-];
-
-// Words that stand behind one for a side.
-const BEHIND: [&str; 8] = [
-    "hemisphere",
-    "hemi",
-    "hemisphäre",
-    "latitude",
-    "longitude",
-    "lat",
-    "lon",
-    "degrees",
-];
-
-// Words of titles of places and groups, which are called by a side too, as are slopes.
-const PLACES: [&str; 48] = [
-    "site",
-    "sites",
-    "area",
-    "areas",
-    "region",
-    "regions",
-    "plot",
-    "plots",
-    "population",
-    "populations",
-    "subpopulation",
-    "pop",
-    "herd",
-    "herds",
-    "pack",
-    "packs",
-    "group",
-    "groups",
-    "colony",
-    "study",
-    "habitat",
-    "camp",
-    "transect",
-    "block",
-    "sector",
-    "district",
-    "county",
-    "province",
-    "state",
-    "country",
-    "locality",
-    "place",
-    "park",
-    "reserve",
-    "valley",
-    "slope",
-    "aspect",
-    "exposure",
-    "stratum",
-    "strata",
-    "name",
-    "label",
-    "comment",
-    "comments",
-    "notes",
-    "gebiet",
-    "standort",
-    "zona",
-];
-
-// Words of titles of sides, beside letters and words for them.
-const TITLES: [&str; 26] = [
-    "ns",
-    "ew",
-    "we",
-    "eo",
-    "wo",
-    "ow",
-    "n",
-    "s",
-    "e",
-    "w",
-    "o",
-    "hemisphere",
-    "hemi",
-    "hemisphäre",
-    "side",
-    "sign",
-    "dir",
-    "direction",
-    "ref",
-    "lat",
-    "latitude",
-    "latitud",
-    "lon",
-    "long",
-    "longitude",
-    "longitud",
-];
-
-// Words beside which such a title is that of something else.
-const OTHERS: [&str; 14] = [
-    "wind", "weather", "flight", "flow", "current", "view", "sex", "gender", "sexe", "sexo",
-    "geschlecht", "treatment", "season", "observer",
-];
 
 // A side of the Earth.
 #[derive(Clone, Copy, PartialEq, Eq)]
@@ -185,7 +64,9 @@ fn first_of(text: &[u8]) -> &[u8] {
 // Whether letters of a column of this title may be sides by it: where it says so, or stands beside coordinates, and not where it says
 // something else.
 fn may_have_letters(title: &[u8], is_beside: bool) -> bool {
-    (is_beside || has_word(title, &TITLES)) && !has_word(title, &OTHERS)
+    let is_titled = has_word(title, &SIDE_TITLES) || has_word(title, &BEHIND);
+    let is_of_axis = has_word(title, &LONGITUDES) || has_word(title, &LATITUDES);
+    (is_beside || is_titled || is_of_axis) && !has_word(title, &NO_SIDES)
 }
 
 // The side that a text says, where no places or groups are called so.

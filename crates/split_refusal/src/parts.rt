@@ -3,40 +3,20 @@
 use crate::digits::are_digits;
 use crate::forms::has_form;
 use range_plane::OutOfMemory;
-use split_titles::comes_to;
+use split_titles::dictionary::{DAYS, DAYS_OF_YEARS, HOURS, MINUTES, MONTHS, SECONDS, YEARS};
+use split_titles::{comes_to, is_word};
 use std::alloc::Global;
 
-// Titles of parts of a time, by the sign that stands for them in a form.
-const YEARS: [&str; 7] = ["year", "yr", "yyyy", "jahr", "annee", "ano", "anno"];
+// Titles of hours, minutes and seconds whose words are those of other things too.
+const SHORT_HOURS: [&str; 4] = ["hr", "hrs", "hh", "ora"];
 
-const MONTHS: [&str; 7] = ["month", "mon", "mm", "monat", "mois", "mes", "mese"];
+const SHORT_MINUTES: [&str; 1] = ["mi"];
 
-const DAYS: [&str; 6] = ["day", "dd", "tag", "jour", "dia", "giorno"];
+const SHORT_SECONDS: [&str; 1] = ["ss"];
 
-const DAYS_OF_YEARS: [&str; 10] = [
-    "julian",
-    "julianday",
-    "julian-day",
-    "julday",
-    "jday",
-    "doy",
-    "yday",
-    "dayofyear",
-    "day-of-year",
-    "tag-des-jahres",
-];
-
-const HOURS: [&str; 9] = [
-    "hour", "hours", "hr", "hrs", "hh", "stunde", "heure", "hora", "ora",
-];
-
-const MINUTES: [&str; 6] = ["minute", "minutes", "min", "mins", "mi", "minuto"];
-
-const SECONDS: [&str; 6] = ["second", "seconds", "sec", "secs", "ss", "sekunde"];
-
-// Whether a title comes to one of these.
+// Whether a title comes to one of these, or is one of these words.
 fn is_one_of(title: &[u8], titles: &[&str]) -> bool {
-    titles.iter().any(|own| comes_to(title, own.as_bytes()))
+    is_word(title, titles) || titles.iter().any(|own| comes_to(title, own.as_bytes()))
 }
 
 // The sign of a form that a title stands for, above numbers.
@@ -49,11 +29,11 @@ fn sign_of_title(title: &[u8]) -> Option<&'static str> {
         Some("%d")
     } else if is_one_of(title, &DAYS_OF_YEARS) {
         Some("%j")
-    } else if is_one_of(title, &HOURS) {
+    } else if is_one_of(title, &HOURS) || is_one_of(title, &SHORT_HOURS) {
         Some("%H")
-    } else if is_one_of(title, &MINUTES) {
+    } else if is_one_of(title, &MINUTES) || is_one_of(title, &SHORT_MINUTES) {
         Some("%M")
-    } else if is_one_of(title, &SECONDS) {
+    } else if is_one_of(title, &SECONDS) || is_one_of(title, &SHORT_SECONDS) {
         Some("%S")
     } else {
         None

@@ -1,96 +1,8 @@
 // What titles say of the clock of their times.
 
 use crate::clock_words::{clock_word, is_official};
+use crate::dictionary::{ACCENTED_CLOCKS, CLOCK_ABBREVIATIONS, NAMELESS, WORDS_OF_UTC};
 use crate::words::{begins_at, behind, is_one_of, start_of, word_from};
-
-// Words for the clock of a place that is not named, in the languages of tables.
-const NAMELESS: [&str; 76] = [
-    "local",
-    "locale",
-    "locales",
-    "localtime",
-    "localdate",
-    "localdatetime",
-    "localtimestamp",
-    "timelocal",
-    "datelocal",
-    "lmt",
-    "lt",
-    "lokal",
-    "lokale",
-    "lokaler",
-    "lokales",
-    "lokalen",
-    "lokaal",
-    "lokalt",
-    "lokaltid",
-    "lokalno",
-    "lokalny",
-    "lokalzeit",
-    "ortszeit",
-    "wallclock",
-    "locais",
-    "locali",
-    "locala",
-    "locală",
-    "lokala",
-    "lokalni",
-    "lokalna",
-    "lokalnega",
-    "lokalnego",
-    "lokalnem",
-    "lokální",
-    "lokalne",
-    "lokaltiden",
-    "lokaltime",
-    "místní",
-    "mistni",
-    "místního",
-    "mistniho",
-    "miestny",
-    "miestneho",
-    "krajevni",
-    "krajevna",
-    "mjesno",
-    "mjesni",
-    "mesno",
-    "miejscowy",
-    "miejscowego",
-    "plaatselijk",
-    "plaatselijke",
-    "plaatselijketijd",
-    "ortstid",
-    "paikallinen",
-    "paikallisen",
-    "paikallista",
-    "paikallisaika",
-    "paikallisaikaa",
-    "helyi",
-    "kohalik",
-    "vietējais",
-    "vietinis",
-    "vietos",
-    "yerel",
-    "местное",
-    "местный",
-    "местного",
-    "местному",
-    "місцевий",
-    "місцевого",
-    "местно",
-    "локално",
-    "локальное",
-    "τοπική",
-];
-
-// Words for other clocks that are not that of UTC. Abbreviations of zones that are other words too, as `cat`, `eat`, `ist`, `wet` and
-// the German `Ast` and `Pkt`, are none.
-const LOCAL_WORDS: [&str; 41] = [
-    "dst", "cet", "cest", "mez", "mesz", "est", "edt", "cst", "cdt", "mst", "mdt", "pst", "pdt",
-    "hst", "akst", "akdt", "adt", "nst", "ndt", "brt", "clt", "bst", "eet", "eest", "msk", "wat",
-    "sast", "hkt", "sgt", "jst", "kst", "awst", "acst", "acdt", "aest", "aedt", "nzst", "nzdt",
-    "seč", "selč", "мск",
-];
 
 // What names of zones begin with, before a `/`.
 const AREAS: [&str; 16] = [
@@ -126,52 +38,6 @@ const ZONES_OF_UTC: [&str; 9] = [
     "GMT0",
     "GMT+0",
     "GMT-0",
-];
-
-// Words for the clock of UTC that is not named so.
-const WORDS_OF_UTC: [&str; 42] = [
-    "zulu",
-    "universal",
-    "greenwich",
-    "weltzeit",
-    "wereldtijd",
-    "universale",
-    "universel",
-    "universelle",
-    "universeel",
-    "universele",
-    "universell",
-    "universellt",
-    "universaltid",
-    "universaltiden",
-    "verdenstid",
-    "världstid",
-    "världstiden",
-    "yleisaika",
-    "maailmanaika",
-    "světový",
-    "svetovy",
-    "světového",
-    "svetovni",
-    "svetovnega",
-    "univerzalni",
-    "univerzální",
-    "univerzalno",
-    "uniwersalny",
-    "uniwersalnego",
-    "egyetemes",
-    "világidő",
-    "vilagido",
-    "greenwichský",
-    "greenwichi",
-    "гринвич",
-    "гринвичу",
-    "гринвича",
-    "всемирное",
-    "всемирного",
-    "всемирному",
-    "координированное",
-    "всесвітній",
 ];
 
 // What a title says of a clock.
@@ -278,11 +144,14 @@ fn is_offset(digits: &[u8]) -> bool {
 }
 
 // Whether an offset may begin with this sign behind a byte of a title: a minus, which also joins words and parts of days,
-// behind a bracket that opens, or before hours and minutes.
+// behind a bracket that opens, or before hours and minutes; and a plus behind a letter before these.
 fn may_begin(before: u8, sign: u8, digits: &[u8]) -> bool {
     match (before, sign) {
-        (b'(' | b'[' | b'{', b'+' | b'-') | (b' ' | b'\t' | b')' | b']' | b'}', b'+') => true,
-        (b' ' | b'\t' | b')' | b']' | b'}', b'-') => digits.contains(&b':'),
+        (b'(' | b'[' | b'{', b'+' | b'-') | (b' ' | b'\t' | b'_' | b')' | b']' | b'}', b'+') =>
+            true,
+        (b' ' | b'\t' | b')' | b']' | b'}', b'-') | (b'a'..=b'z' | b'A'..=b'Z', b'+') => {
+            digits.contains(&b':')
+        }
         _ => false,
     }
 }
@@ -371,10 +240,16 @@ fn behind_utc(text: &[u8]) -> Option<&[u8]> {
     }
 }
 
+// Whether a word is the abbreviation of a clock, also one that has to have its accents.
+fn is_abbreviation(word: &[u8]) -> bool {
+    let is_accented = !word.is_ascii() && is_one_of(word, &ACCENTED_CLOCKS);
+    is_accented || is_one_of(word, &CLOCK_ABBREVIATIONS)
+}
+
 // What the word at the start of a text says, which is not the name of UTC.
 fn local_at(text: &[u8]) -> ClockSaid<'_> {
     let word = word_from(text, 0);
-    if is_one_of(word, &NAMELESS) || is_one_of(word, &LOCAL_WORDS) {
+    if is_one_of(word, &NAMELESS) || is_abbreviation(word) {
         ClockSaid::Local(word)
     } else if is_one_of(word, &WORDS_OF_UTC) {
         ClockSaid::Utc(word)
@@ -458,6 +333,11 @@ fn word_at(text: &[u8]) -> ClockSaid<'_> {
     }
 }
 
+// Whether an offset may stand behind a byte of a title.
+fn may_stand_behind(byte: u8) -> bool {
+    parts_words(byte) || byte.is_ascii_alphabetic()
+}
+
 // What stands at a place of a title says, if a word or an offset begins there.
 fn said_at(title: &[u8], place: usize) -> ClockSaid<'_> {
     let text = behind(title, place);
@@ -467,7 +347,7 @@ fn said_at(title: &[u8], place: usize) -> ClockSaid<'_> {
         ClockSaid::Nothing
     };
     match place.checked_sub(1).and_then(|before| title.get(before)) {
-        Some(before) if word == ClockSaid::Nothing && parts_words(*before) => {
+        Some(before) if word == ClockSaid::Nothing && may_stand_behind(*before) => {
             offset_at(*before, text)
         }
         _ => word,

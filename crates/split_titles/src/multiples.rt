@@ -1,62 +1,13 @@
 // What titles say of multiples and parts of their unit, as `x (10 m)`, `E_100m`, `easting x 1000` and `lat*10^7`.
 
-use crate::sides::AXES;
-use crate::units::{DEGREES, METRES};
+use crate::axes::is_axis;
+use crate::dictionary::{
+    COORDINATE_LETTERS, COORDS, DEGREES, EASTS, METRES, MULTIPLES, NORTHS, NUMBERED_SYSTEMS,
+};
 use crate::words::{begins_at, behind, is_one_of, start_of, word_before, word_from};
-
-// Multiples and parts that are written out.
-const WRITTEN_OUT: [&str; 17] = [
-    "tens",
-    "tenth",
-    "tenths",
-    "hundreds",
-    "hundredth",
-    "hundredths",
-    "thousands",
-    "thousandth",
-    "thousandths",
-    "millionth",
-    "millionths",
-    "zehntel",
-    "hundertstel",
-    "tausendstel",
-    "millionstel",
-    "centièmes",
-    "millièmes",
-];
 
 // The short name of metres.
 const METRE: &str = "m";
-
-// Words before a number that is one of a system, as in `UTM 10 m`.
-const SYSTEMS: [&str; 15] = [
-    "utm", "zone", "zona", "zonen", "huso", "fuso", "fuseau", "mga", "mtm", "gk", "tm", "epsg",
-    "srid", "crs", "lcc",
-];
-
-// Words of coordinates behind which an `x` is a sign, as behind names of axes and units.
-const MULTIPLIED: [&str; 20] = [
-    "x",
-    "y",
-    "e",
-    "n",
-    "m",
-    "easting",
-    "eastings",
-    "northing",
-    "northings",
-    "est",
-    "este",
-    "ost",
-    "nord",
-    "norte",
-    "rechtswert",
-    "hochwert",
-    "coord",
-    "coordinate",
-    "value",
-    "values",
-];
 
 // Whether a byte goes on with a number: a digit, or a sign that stands between digits.
 fn is_of_number(text: &[u8]) -> bool {
@@ -148,8 +99,11 @@ fn unit_length(text: &[u8], is_metres: bool) -> usize {
 
 // Whether an `x` behind a word is a sign.
 fn is_multiplied(word: &[u8]) -> bool {
-    is_one_of(word, &MULTIPLIED)
-        || is_one_of(word, &AXES)
+    is_one_of(word, &COORDINATE_LETTERS)
+        || is_one_of(word, &COORDS)
+        || is_axis(word)
+        || is_one_of(word, &EASTS)
+        || is_one_of(word, &NORTHS)
         || is_one_of(word, &METRES)
         || is_one_of(word, &DEGREES)
 }
@@ -204,7 +158,7 @@ fn length_behind(before: &[u8], text: &[u8], number: &[u8], is_metres: bool) -> 
     if !is_multiple(number) && !is_part(number) {
         return 0;
     }
-    let is_of_system = is_one_of(word_before(before, before.len()), &SYSTEMS);
+    let is_of_system = is_one_of(word_before(before, before.len()), &NUMBERED_SYSTEMS);
     match unit_length(rest, is_metres) {
         0 if is_in_brackets(before, rest) => number.len(),
         0 => 0,
@@ -236,7 +190,7 @@ fn multiple_at(title: &[u8], place: usize, is_metres: bool) -> Option<&[u8]> {
 pub(crate) fn multiple_said(title: &[u8], is_metres: bool) -> Option<&[u8]> {
     for place in 0..title.len() {
         let word = word_from(title, place);
-        if is_one_of(word, &WRITTEN_OUT) {
+        if is_one_of(word, &MULTIPLES) {
             return Some(word);
         }
         let said = multiple_at(title, place, is_metres);

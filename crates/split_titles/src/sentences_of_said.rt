@@ -5,7 +5,7 @@ use crate::clocks::{ClockSaid, clock_said, is_loose, is_of_offset, is_zone, whol
 use crate::named::Role;
 use crate::sentences::{push, push_column, title_at};
 use crate::sides::side_said;
-use crate::units::unit_said;
+use crate::units::{known_unit, unit_said};
 use std::alloc::{AllocError, Allocator};
 
 // Appends that a column says a word.
@@ -20,6 +20,24 @@ fn push_says<A: Allocator>(
     text.extend_from_slice(word)
 }
 
+// Appends that a word is not known as the unit of coordinates.
+fn push_unknown_unit<A: Allocator>(
+    text: &mut Vec<u8, A>,
+    is_metres: bool,
+) -> Result<(), AllocError> {
+    if is_metres {
+        push(
+            text,
+            ", which is not known as metres: if its numbers are in metres, rename the column, and else write metres",
+        )
+    } else {
+        push(
+            text,
+            ", which is not known as degrees: if its numbers are in degrees with decimals, rename the column, and else write these",
+        )
+    }
+}
+
 // Appends that a column of coordinates says another unit.
 pub(crate) fn push_unit<A: Allocator>(
     text: &mut Vec<u8, A>,
@@ -27,9 +45,11 @@ pub(crate) fn push_unit<A: Allocator>(
     at: usize,
     is_metres: bool,
 ) -> Result<(), AllocError> {
-    let word = unit_said(title_at(titles, at), is_metres).unwrap_or(b"");
-    push_says(text, titles, at, word)?;
-    if is_metres {
+    let title = title_at(titles, at);
+    push_says(text, titles, at, unit_said(title, is_metres).unwrap_or(b""))?;
+    if known_unit(title, is_metres).is_none() {
+        push_unknown_unit(text, is_metres)
+    } else if is_metres {
         push(
             text,
             ", and coordinates are in metres: write metres, and rename the column",

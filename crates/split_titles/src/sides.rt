@@ -1,154 +1,13 @@
 // What titles say of the side to which coordinates are counted.
 
+use crate::axes::{is_axis, is_of_degrees as has_axis_of_degrees};
+use crate::dictionary::{
+    BEHIND_SIDES, COORDINATE_LETTERS, COORDS, DEGREES, EASTINGS, EASTS, HEMISPHERES,
+    LONGITUDES_OF_O, METRES, NORTHINGS, NORTHS, OF_PLANES, SIGNED, SOUTHS, WESTINGS, WESTS,
+};
 use crate::named::Role;
-use crate::units::{DEGREES, METRES, is_known};
-use crate::words::{behind, has_word, is_one_of, is_one_word, next_word, word_from};
-
-// Coordinates that are counted to the west or to the south by their names.
-const TURNED: [&str; 4] = ["westing", "westings", "southing", "southings"];
-
-// Words for the west, and for the south.
-const WEST: [&str; 23] = [
-    "west",
-    "western",
-    "westerly",
-    "westward",
-    "westwards",
-    "westen",
-    "westl",
-    "westlich",
-    "westliche",
-    "westlicher",
-    "westlichen",
-    "westerlengte",
-    "ouest",
-    "oeste",
-    "ovest",
-    "occidental",
-    "vest",
-    "väst",
-    "zahod",
-    "zahodna",
-    "zapad",
-    "zachód",
-    "länsi",
-];
-
-const SOUTH: [&str; 28] = [
-    "south",
-    "southern",
-    "southerly",
-    "southward",
-    "southwards",
-    "süd",
-    "süden",
-    "südl",
-    "südlich",
-    "südliche",
-    "südlicher",
-    "südlichen",
-    "sued",
-    "sueden",
-    "suedlich",
-    "suedliche",
-    "sud",
-    "sur",
-    "sul",
-    "zuid",
-    "zuiden",
-    "zuiderbreedte",
-    "syd",
-    "jug",
-    "južna",
-    "jih",
-    "południe",
-    "etelä",
-];
-
-// Words for the other sides.
-pub(crate) const EAST: [&str; 8] = [
-    "e", "east", "eastern", "est", "este", "leste", "ost", "osten",
-];
-
-pub(crate) const NORTH: [&str; 8] = [
-    "n", "north", "northern", "nord", "norte", "norden", "noord", "sever",
-];
-
-// Coordinates that are counted to these by their names.
-const STRAIGHT: [&str; 4] = ["easting", "eastings", "northing", "northings"];
-
-// Words by which a title says that the numbers of one side have a sign.
-const SIGNED: [&str; 6] = ["negative", "neg", "minus", "signed", "negativ", "negativo"];
-
-// Words for longitudes and latitudes, beside which, as beside degrees, a letter stands for a side.
-pub(crate) const AXES: [&str; 19] = [
-    "lon",
-    "lons",
-    "long",
-    "lng",
-    "longitude",
-    "longitudes",
-    "longitud",
-    "longitudine",
-    "länge",
-    "laenge",
-    "lengte",
-    "lat",
-    "lats",
-    "latitude",
-    "latitudes",
-    "latitud",
-    "latitudine",
-    "breite",
-    "breedte",
-];
-
-// Longitudes in the languages in which the west begins with an O.
-const OF_O: [&str; 3] = ["longitude", "longitud", "longitudine"];
-
-// Other words that stand behind the word for a side of degrees.
-const BEHIND: [&str; 12] = [
-    "hemisphere",
-    "hemi",
-    "half",
-    "positive",
-    "pos",
-    "of",
-    "from",
-    "is",
-    "coord",
-    "coords",
-    "coordinate",
-    "coordinates",
-];
-
-// Words beside which a word for a side says that of a plane. Names of systems and of places are none, as in `UTM 36 South`.
-const OF_PLANES: [&str; 24] = [
-    "x",
-    "y",
-    "easting",
-    "eastings",
-    "northing",
-    "northings",
-    "coord",
-    "coords",
-    "coordinate",
-    "coordinates",
-    "m",
-    "grid",
-    "gps",
-    "gnss",
-    "fix",
-    "pos",
-    "position",
-    "positive",
-    "value",
-    "raw",
-    "to",
-    "the",
-    "in",
-    "axis",
-];
+use crate::units::is_known;
+use crate::words::{behind, first_word, has_word, is_one_of, is_one_word, next_word, word_from};
 
 // Whether a role is that of the first of two coordinates.
 pub(crate) fn is_first(role: Role) -> bool {
@@ -163,9 +22,9 @@ fn is_of_degrees(role: Role) -> bool {
 // Whether a word is one for the west, of a first coordinate, or for the south, of a second.
 fn is_written_out(word: &[u8], role: Role) -> bool {
     if is_first(role) {
-        is_one_of(word, &WEST)
+        is_one_of(word, &WESTS)
     } else {
-        is_one_of(word, &SOUTH)
+        is_one_of(word, &SOUTHS)
     }
 }
 
@@ -183,13 +42,21 @@ fn may_stand_before(rest: &[u8]) -> bool {
     ends_before(rest)
         || next.is_empty()
         || is_known(next)
-        || is_one_of(next, &AXES)
-        || is_one_of(next, &BEHIND)
+        || is_axis(next)
+        || is_one_of(next, &COORDS)
+        || is_one_of(next, &HEMISPHERES)
+        || is_one_of(next, &BEHIND_SIDES)
 }
 
 // Whether a word of the title of a plane is none of a system or of a place.
 fn is_of_plane(word: &[u8], role: Role) -> bool {
-    is_one_of(word, &OF_PLANES) || is_one_of(word, &METRES) || is_written_out(word, role)
+    is_one_of(word, &OF_PLANES)
+        || is_one_of(word, &COORDINATE_LETTERS)
+        || is_one_of(word, &COORDS)
+        || is_one_of(word, &EASTINGS)
+        || is_one_of(word, &NORTHINGS)
+        || is_one_of(word, &METRES)
+        || is_written_out(word, role)
 }
 
 // Whether all words of a title are none of a system or of a place.
@@ -212,18 +79,30 @@ fn letter_of(role: Role) -> &'static str {
 // the letter too, as `lon_s` beside `lat_s`.
 fn may_have_letter(title: &[u8], other: &[u8], role: Role) -> bool {
     is_of_degrees(role)
-        && (has_word(title, &AXES) || has_word(title, &DEGREES) || is_one_word(title))
+        && (has_axis_of_degrees(title) || has_word(title, &DEGREES) || is_one_word(title))
         && !has_word(other, &[letter_of(role)])
+}
+
+// The first word of a title for the side to which the first of two coordinates is counted, or the second.
+pub(crate) fn straight_side(title: &[u8], is_first: bool) -> Option<&[u8]> {
+    if is_first {
+        first_word(title, &EASTS).or(first_word(title, &["e"]))
+    } else {
+        first_word(title, &NORTHS).or(first_word(title, &["n"]))
+    }
+}
+
+// Whether a word is one for a side of the Earth.
+pub(crate) fn is_side(word: &[u8]) -> bool {
+    is_one_of(word, &EASTS)
+        || is_one_of(word, &NORTHS)
+        || is_one_of(word, &WESTS)
+        || is_one_of(word, &SOUTHS)
 }
 
 // Whether a title says both sides, or which of them has a sign.
 fn says_both(title: &[u8], role: Role) -> bool {
-    let has_other = if is_first(role) {
-        has_word(title, &EAST)
-    } else {
-        has_word(title, &NORTH)
-    };
-    has_other || has_word(title, &SIGNED)
+    straight_side(title, is_first(role)).is_some() || has_word(title, &SIGNED)
 }
 
 // What a title has that tells whether its words say a side.
@@ -243,8 +122,8 @@ fn facts_of(title: &[u8], other: &[u8], role: Role) -> Facts {
         role,
         is_plain: is_of_degrees(role) || are_of_plane(title, role),
         may_have_letter: may_have_letter(title, other, role),
-        has_o: role == Role::Longitude && has_word(title, &OF_O),
-        is_straight: has_word(title, &STRAIGHT),
+        has_o: role == Role::Longitude && has_word(title, &LONGITUDES_OF_O),
+        is_straight: has_word(title, &EASTINGS) || has_word(title, &NORTHINGS),
     }
 }
 
@@ -257,7 +136,7 @@ fn is_lettered(word: &[u8], facts: Facts) -> bool {
 // Whether a word says a side before the rest of its title.
 fn says_side(word: &[u8], rest: &[u8], facts: Facts) -> bool {
     let is_one = facts.is_plain && is_written_out(word, facts.role) || is_lettered(word, facts);
-    let is_turned = is_one_of(word, &TURNED) && !facts.is_straight;
+    let is_turned = is_one_of(word, &WESTINGS) && !facts.is_straight;
     is_turned || is_one && (!is_of_degrees(facts.role) || may_stand_before(rest))
 }
 

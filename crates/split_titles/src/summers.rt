@@ -1,67 +1,16 @@
 // Columns that say which times are by the clock of a summer.
 
-use crate::clock_words::TIMES;
+use crate::clock_words::has_time;
+use crate::dictionary::{SUMMER_CLOCKS, SUMMER_FLAGS, SUMMERS};
 use crate::words::has_word;
 
-// Words for such a clock, and others that say it beside a word for the time.
-const FLAGS: [&str; 15] = [
-    "dst",
-    "isdst",
-    "dstflag",
-    "isdstflag",
-    "summertime",
-    "issummertime",
-    "daylighttime",
-    "daylightsaving",
-    "daylightsavings",
-    "sommerzeit",
-    "zomertijd",
-    "zomeruur",
-    "sommertid",
-    "sommartid",
-    "kesäaika",
-];
-
-const SUMMERS: [&str; 36] = [
-    "summer",
-    "daylight",
-    "saving",
-    "savings",
-    "sommer",
-    "zomer",
-    "sommar",
-    "verano",
-    "verão",
-    "verao",
-    "estiva",
-    "estivo",
-    "estivale",
-    "été",
-    "ete",
-    "estiu",
-    "letní",
-    "letni",
-    "letny",
-    "letný",
-    "letnie",
-    "letnia",
-    "poletni",
-    "poletno",
-    "poletna",
-    "ljetno",
-    "letnje",
-    "nyári",
-    "nyari",
-    "kesä",
-    "vară",
-    "vara",
-    "летнее",
-    "летний",
-    "літній",
-    "лятно",
-];
+// The clock of Italy in the summer, beside a word for the time.
+const OF_LAW: [&str; 1] = ["legale"];
 
 /// Whether a title is that of a column that says which times are by the clock of a summer.
 pub fn is_of_summer(title: &[u8]) -> bool {
-    has_word(title, &FLAGS) || has_word(title, &SUMMERS) && has_word(title, &TIMES)
+    let is_beside = has_word(title, &SUMMERS) || has_word(title, &OF_LAW);
+    let is_saving = has_word(title, &["daylight"]) && has_word(title, &["saving", "savings"]);
+    let is_one = has_word(title, &SUMMER_FLAGS) || has_word(title, &SUMMER_CLOCKS);
+    is_one || is_saving || is_beside && has_time(title)
 }

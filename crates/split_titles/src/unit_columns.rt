@@ -1,115 +1,8 @@
 // Columns that name the unit of coordinates.
 
-use crate::units::{DEGREES, METRES, known_unit};
+use crate::dictionary::{DEGREES, METRES, OTHER_UNITS, UNITS};
+use crate::units::known_unit;
 use crate::words::has_word;
-
-// Words of titles of units, in the languages of tables.
-const UNITS: [&str; 33] = [
-    "unit",
-    "units",
-    "uom",
-    "coordunit",
-    "coordunits",
-    "xyunit",
-    "xyunits",
-    "einheit",
-    "einheiten",
-    "maßeinheit",
-    "masseinheit",
-    "unidad",
-    "unidades",
-    "unidade",
-    "unité",
-    "unités",
-    "unite",
-    "unites",
-    "unità",
-    "unita",
-    "eenheid",
-    "eenheden",
-    "enhet",
-    "enheter",
-    "enhed",
-    "enheder",
-    "jednotka",
-    "jednotky",
-    "jednostka",
-    "enota",
-    "enote",
-    "jedinica",
-    "единица",
-];
-
-// Words of titles of units of something else than coordinates, and of units that are places or groups.
-const OTHERS: [&str; 67] = [
-    "alt",
-    "altitude",
-    "elev",
-    "elevation",
-    "height",
-    "höhe",
-    "hoehe",
-    "altitud",
-    "altura",
-    "quota",
-    "z",
-    "depth",
-    "tiefe",
-    "speed",
-    "velocity",
-    "geschwindigkeit",
-    "distance",
-    "distances",
-    "dist",
-    "distanz",
-    "step",
-    "length",
-    "width",
-    "size",
-    "radius",
-    "buffer",
-    "area",
-    "areas",
-    "range",
-    "temp",
-    "temperature",
-    "temperatur",
-    "pressure",
-    "weight",
-    "mass",
-    "body",
-    "accuracy",
-    "error",
-    "precision",
-    "resolution",
-    "time",
-    "duration",
-    "interval",
-    "voltage",
-    "battery",
-    "activity",
-    "dop",
-    "hdop",
-    "rain",
-    "snow",
-    "wind",
-    "visibility",
-    "name",
-    "names",
-    "id",
-    "code",
-    "management",
-    "hunt",
-    "hunting",
-    "study",
-    "sampling",
-    "survey",
-    "plot",
-    "group",
-    "social",
-    "pack",
-    "family",
-];
 
 // Short names of metres and of degrees, beside the words for them.
 const SHORT_METRES: [&str; 2] = ["m", "м"];
@@ -129,7 +22,7 @@ pub enum UnitNamed {
 
 /// Whether a title is that of a column with the unit of coordinates.
 pub fn is_of_units(title: &[u8]) -> bool {
-    has_word(title, &UNITS) && !has_word(title, &OTHERS)
+    has_word(title, &UNITS) && !has_word(title, &OTHER_UNITS)
 }
 
 // Whether a text is one of these, without blanks beside it.

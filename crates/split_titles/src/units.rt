@@ -1,166 +1,91 @@
 // What titles say of units.
 
+use crate::axes::{is_axis, is_of_degrees};
 use crate::brackets::lone_word;
+use crate::dictionary::{
+    ANGLES, COORDINATE_LETTERS, COORDS, DEGREES, GLUED_ANGLES, GLUED_LENGTHS, LENGTHS, METRES,
+    OF_FIXES, PARTS_OF_DEGREES, PARTS_OF_METRES, SYSTEMS_AND_AXES,
+};
 use crate::multiples::multiple_said;
-use crate::words::{first_word, is_one_of, word_from};
+use crate::sides::is_side;
+use crate::words::{behind, first_word, has_word, is_one_of, start_of, word_from};
 
-// Short names of units of lengths that are not metres, and names of such that metres are no part of.
-const LENGTHS: [&str; 47] = [
-    "km", "hm", "dam", "dm", "cm", "mm", "um", "nm", "nmi", "ft", "fts", "foot", "feet", "usft",
-    "ftus", "fuss", "fuß", "pied", "pieds", "pie", "pies", "inch", "inches", "zoll", "pouce",
-    "pouces", "pulgada", "pulgadas", "mi", "mile", "miles", "meile", "meilen", "milla", "millas",
-    "milha", "milhas", "yd", "yds", "yard", "yards", "chain", "chains", "fathom", "fathoms",
-    "furlong", "furlongs",
-];
+// Gons in English, and degrees in other languages, and words beside which they are gons.
+const GRADS: [&str; 1] = ["grad"];
 
-// What metres are called, in the languages of tables.
-pub(crate) const METRES: [&str; 11] = [
-    "metre", "metres", "meter", "meters", "metern", "mètre", "mètres", "metro", "metros", "metri",
-    "metra",
-];
-
-// What stands before them in the names of their multiples and parts.
-const PARTS: [&str; 28] = [
-    "kilo", "kiló", "quilo", "quiló", "quilô", "chilo", "hecto", "hectó", "hekto", "etto", "deca",
-    "decá", "deka", "déca", "deci", "decí", "déci", "dezi", "centi", "centí", "zenti", "milli",
-    "mili", "milí", "micro", "mikro", "nano", "mega",
-];
-
-// Units of angles that are not degrees with decimals.
-const ANGLES: [&str; 35] = [
-    "rad",
-    "rads",
-    "radian",
-    "radians",
-    "radiant",
-    "radianes",
-    "mrad",
-    "milliradian",
-    "milliradians",
-    "gon",
-    "gons",
-    "gradian",
-    "gradians",
-    "grad",
-    "grads",
-    "grade",
-    "grades",
-    "arcmin",
-    "arcmins",
-    "arcminute",
-    "arcminutes",
-    "arcsec",
-    "arcsecs",
-    "arcsecond",
-    "arcseconds",
-    "mas",
-    "microdegree",
-    "microdegrees",
-    "microdeg",
-    "udeg",
-    "millidegree",
-    "millidegrees",
-    "millideg",
-    "dms",
-    "ddm",
-];
-
-// What degrees are called, in the languages of tables.
-pub(crate) const DEGREES: [&str; 14] = [
-    "deg", "degs", "degree", "degrees", "degré", "degrés", "grado", "grados", "grau", "graus",
-    "gradi", "decdeg", "ddeg", "dd",
-];
-
-// Words that may stand alone between brackets behind the title of a coordinate, and say no unit other than metres and degrees: beside
-// names of these, those of systems, of axes and of what was done to it.
-const KNOWN: [&str; 67] = [
-    "m",
-    "decimal",
-    "dec",
-    "wgs",
-    "utm",
-    "etrs",
-    "nad",
-    "gda",
-    "epsg",
-    "crs",
-    "srs",
-    "srid",
-    "gps",
-    "gnss",
-    "argos",
-    "lambert",
-    "mercator",
-    "laea",
-    "lcc",
-    "albers",
-    "aea",
-    "proj",
-    "projected",
-    "projection",
-    "lv",
-    "ch",
-    "rgf",
-    "rd",
-    "osgb",
-    "bng",
-    "itm",
-    "itrf",
-    "nztm",
-    "sirgas",
-    "mga",
-    "gk",
-    "gauss",
-    "tm",
-    "ups",
-    "mgi",
-    "sweref",
-    "euref",
-    "ed",
-    "n",
-    "s",
-    "e",
-    "w",
-    "o",
-    "east",
-    "west",
-    "north",
-    "south",
-    "x",
-    "y",
-    "long",
-    "lon",
-    "lat",
-    "raw",
-    "corrected",
-    "filtered",
-    "smoothed",
-    "estimated",
-    "mean",
-    "median",
-    "centroid",
-    "true",
-    "final",
-];
+const ENGLISH_AXES: [&str; 6] = ["lon", "long", "lng", "longitude", "lat", "latitude"];
 
 // Whether a word of the title of a coordinate is known, and says no unit other than metres and degrees.
 pub(crate) fn is_known(word: &[u8]) -> bool {
-    is_one_of(word, &KNOWN) || is_one_of(word, &METRES) || is_one_of(word, &DEGREES)
+    is_one_of(word, &SYSTEMS_AND_AXES)
+        || is_one_of(word, &COORDINATE_LETTERS)
+        || is_one_of(word, &METRES)
+        || is_one_of(word, &DEGREES)
 }
 
-// Whether a word is the name of metres behind this text.
-fn is_metres_behind(word: &[u8], part: &[u8]) -> bool {
-    match word.split_at_checked(part.len()) {
-        Some((start, rest)) => start.eq_ignore_ascii_case(part) && is_one_of(rest, &METRES),
-        None => false,
-    }
+// Whether a word alone between brackets is known, and says no unit other than metres and degrees.
+fn is_known_alone(word: &[u8]) -> bool {
+    is_known(word)
+        || is_axis(word)
+        || is_side(word)
+        || is_one_of(word, &COORDS)
+        || is_one_of(word, &OF_FIXES)
 }
 
 // Whether a word is a multiple or a part of metres.
 fn is_of_metres(word: &[u8]) -> bool {
-    PARTS
-        .iter()
-        .any(|part| is_metres_behind(word, part.as_bytes()))
+    for place in 1..word.len() {
+        let (part, metres) = (start_of(word, place), behind(word, place));
+        if is_one_of(metres, &METRES) && is_one_of(part, &PARTS_OF_METRES) {
+            return true;
+        }
+    }
+    false
+}
+
+// Whether a word is the name of an axis, before which no other unit than its own stands.
+fn is_of_axis(word: &[u8], is_metres: bool) -> bool {
+    is_axis(word) || is_metres && (is_side(word) || is_one_of(word, &["x", "y", "e", "n"]))
+}
+
+// The short name of another unit at the end of a word, right behind the name of an axis, as in `xkm`.
+fn unit_in(word: &[u8], is_metres: bool) -> Option<&[u8]> {
+    for place in 1..word.len() {
+        let (axis, unit) = (start_of(word, place), behind(word, place));
+        let is_unit = if is_metres {
+            is_one_of(unit, &GLUED_LENGTHS)
+        } else {
+            is_one_of(unit, &GLUED_ANGLES)
+        };
+        if is_unit && is_of_axis(axis, is_metres) {
+            return Some(unit);
+        }
+    }
+    None
+}
+
+// The unit of angles that a text says. A `grad` is one but beside words for a longitude or a latitude in languages that call degrees so.
+fn angle_in(text: &[u8]) -> Option<&[u8]> {
+    let has_own_axis = is_of_degrees(text) && !has_word(text, &ENGLISH_AXES);
+    let grad = if has_own_axis {
+        None
+    } else {
+        first_word(text, &GRADS)
+    };
+    first_word(text, &ANGLES)
+        .or(first_word(text, &PARTS_OF_DEGREES))
+        .or(grad)
+}
+
+// The first short name of another unit in a title that stands right behind the name of an axis.
+fn glued_unit(title: &[u8], is_metres: bool) -> Option<&[u8]> {
+    for place in 0..title.len() {
+        let unit = unit_in(word_from(title, place), is_metres);
+        if unit.is_some() {
+            return unit;
+        }
+    }
+    None
 }
 
 // The first word of a title that is a multiple or a part of metres.
@@ -202,7 +127,7 @@ fn first_power(title: &[u8]) -> Option<&[u8]> {
 // The word that stands alone between brackets at the end of a title, if it is none that is known.
 fn unknown_word(title: &[u8]) -> Option<&[u8]> {
     match lone_word(title) {
-        Some(word) if !is_known(word) => Some(word),
+        Some(word) if !is_known_alone(word) => Some(word),
         _ => None,
     }
 }
@@ -212,9 +137,10 @@ pub(crate) fn known_unit(text: &[u8], is_metres: bool) -> Option<&[u8]> {
     let own = if is_metres {
         first_word(text, &LENGTHS).or(first_of_metres(text))
     } else {
-        first_word(text, &ANGLES).or(first_power(text))
+        angle_in(text).or(first_power(text))
     };
-    own.or(multiple_said(text, is_metres))
+    own.or(glued_unit(text, is_metres))
+        .or(multiple_said(text, is_metres))
 }
 
 // What a title says of another unit than metres, or than degrees.

@@ -22,13 +22,20 @@ fn letter_of(byte: u8) -> Letter {
     }
 }
 
-// The small letter of one that two bytes write, a Latin one of western or central Europe or a Cyrillic one; other letters as they are.
+// The small letter of one that two bytes write, a Latin one of Europe, a Greek or a Cyrillic one; other letters as they are.
 fn small_pair(first: u8, second: u8) -> (u8, u8) {
     match (first, second) {
         (0xC3, 0x80..=0x96 | 0x98..=0x9E) => (first, second | 0x20),
         (0xC4, 0x80..=0xB7) | (0xC5, 0x8A..=0xB7) => (first, second | 1),
         (0xC4, 0xB9 | 0xBB | 0xBD) => (first, second.saturating_add(1)),
         (0xC5, 0x81 | 0x83 | 0x85 | 0x87 | 0xB9 | 0xBB | 0xBD) => (first, second.saturating_add(1)),
+        (0xC8, 0x98 | 0x9A) => (first, second | 1),
+        (0xCE, 0x86) => (first, 0xAC),
+        (0xCE, 0x88..=0x8A) => (first, second.saturating_add(0x25)),
+        (0xCE, 0x8C) => (0xCF, second),
+        (0xCE, 0x8E | 0x8F) => (0xCF, second.saturating_sub(1)),
+        (0xCE, 0x91..=0x9F) => (first, second | 0x20),
+        (0xCE, 0xA0..=0xAB) => (0xCF, second & 0x9F),
         (0xD0, 0x80..=0x8F) => (0xD1, second | 0x10),
         (0xD0, 0x90..=0x9F) => (first, second | 0x20),
         (0xD0, 0xA0..=0xAF) => (0xD1, second & 0x8F),
@@ -36,9 +43,63 @@ fn small_pair(first: u8, second: u8) -> (u8, u8) {
     }
 }
 
-// Whether a byte begins a letter that `small_pair` knows.
+// The plain small letters of those from U+00C0, U+0100 and U+0140 on, 64 of each; a point for those that stay.
+const FROM_C0: &[u8] = b"aaaaaa.ceeeeiiii.nooooo.ouuuuy..aaaaaa.ceeeeiiii.nooooo.ouuuuy.y";
+
+const FROM_100: &[u8] = b"aaaaaaccccccccddddeeeeeeeeeegggggggghhhhiiiiiiiiii..jjkk.lllllll";
+
+const FROM_140: &[u8] = b"lllnnnnnn...oooooo..rrrrrrssssssssttttttuuuuuuuuuuuuwwyyyzzzzzz.";
+
+// The plain small letter of a Latin one that two bytes write; a point for others.
+fn plain_latin(first: u8, second: u8) -> u8 {
+    let letters = match first {
+        0xC3 => FROM_C0,
+        0xC4 => FROM_100,
+        0xC5 => FROM_140,
+        _ => b"",
+    };
+    match (first, second) {
+        (0xC8, 0x98 | 0x99) => b's',
+        (0xC8, 0x9A | 0x9B) => b't',
+        _ => *letters.get(usize::from(second & 0x3F)).unwrap_or(&b'.'),
+    }
+}
+
+// A small Greek or Cyrillic letter without its accent; other letters as they are.
+fn without_accent(first: u8, second: u8) -> (u8, u8) {
+    match (first, second) {
+        (0xCE, 0xAC) => (0xCE, 0xB1),
+        (0xCE, 0xAD) => (0xCE, 0xB5),
+        (0xCE, 0xAE) => (0xCE, 0xB7),
+        (0xCE, 0xAF | 0x90) | (0xCF, 0x8A) => (0xCE, 0xB9),
+        (0xCE, 0xB0) | (0xCF, 0x8B | 0x8D) => (0xCF, 0x85),
+        (0xCF, 0x8C) => (0xCE, 0xBF),
+        (0xCF, 0x8E) => (0xCF, 0x89),
+        (0xCF, 0x82) => (0xCF, 0x83),
+        (0xD0, 0xB9) | (0xD1, 0x9D) => (0xD0, 0xB8),
+        (0xD1, 0x90 | 0x91) => (0xD0, 0xB5),
+        (0xD1, 0x93) => (0xD0, 0xB3),
+        (0xD1, 0x97) => (0xD1, 0x96),
+        (0xD1, 0x9C) => (0xD0, 0xBA),
+        (0xD1, 0x9E) => (0xD1, 0x83),
+        _ => (first, second),
+    }
+}
+
+// The plain small letter of one that two bytes write, a Latin one behind 0.
+fn plain_pair(first: u8, second: u8) -> (u8, u8) {
+    match plain_latin(first, second) {
+        b'.' => {
+            let (first, second) = small_pair(first, second);
+            without_accent(first, second)
+        }
+        letter => (0, letter),
+    }
+}
+
+// Whether a byte begins a letter that `small_pair` knows, or a mark that combines with the letter before it.
 fn begins_pair(byte: u8) -> bool {
-    matches!(byte, 0xC3 | 0xC4 | 0xC5 | 0xD0 | 0xD1)
+    matches!(byte, 0xC3..=0xC5 | 0xC8 | 0xCC..=0xCF | 0xD0 | 0xD1)
 }
 
 // Whether a byte goes on with a character of UTF-8.
@@ -51,9 +112,29 @@ fn is_great_pair(first: u8, second: u8) -> bool {
     small_pair(first, second) != (first, second)
 }
 
+// Whether two bytes write a mark that combines with the letter before it, from U+0300 to U+036F.
+fn is_mark(first: u8, second: u8) -> bool {
+    match (first, second) {
+        (0xCC, 0x80..=0xBF) | (0xCD, 0x80..=0xAF) => true,
+        _ => false,
+    }
+}
+
+// A text without the marks at its end that combine with letters.
+fn without_marks_behind(text: &[u8]) -> &[u8] {
+    let mut rest = text;
+    for _ in 0..text.len() {
+        rest = match rest {
+            [start @ .., first, last] if is_mark(*first, *last) => start,
+            _ => return rest,
+        };
+    }
+    rest
+}
+
 // What the last byte of a text is, by those before it.
 fn last_letter(text: &[u8]) -> Letter {
-    match text {
+    match without_marks_behind(text) {
         [.., 0xC2, last] if goes_on(*last) => Letter::Sign,
         [.., 0xE2, last] if goes_on(*last) => Letter::Sign,
         [.., 0xE2, between, last] if goes_on(*between) && goes_on(*last) => Letter::Sign,
@@ -170,41 +251,82 @@ pub(crate) fn word_before(title: &[u8], place: usize) -> &[u8] {
     b""
 }
 
-// The byte at a place of a text in small letters.
-fn small_at(text: &[u8], place: usize) -> u8 {
-    let (start, rest) = (start_of(text, place), behind(text, place));
-    match (start, rest) {
-        (_, [first, second, ..]) if begins_pair(*first) => small_pair(*first, *second).0,
-        ([.., first], [second, ..]) if begins_pair(*first) => small_pair(*first, *second).1,
-        (_, [only, ..]) => only.to_ascii_lowercase(),
-        (_, []) => 0,
+// The first letter of a text, plain and small, and how many bytes write it. One of ASCII stands behind 0.
+fn first_letter(text: &[u8]) -> ((u8, u8), usize) {
+    match text {
+        [first, second, ..] if begins_pair(*first) => (plain_pair(*first, *second), 2),
+        [only, ..] => ((0, only.to_ascii_lowercase()), 1),
+        [] => ((0, 0), 0),
     }
 }
 
-// Whether two words are the same in small letters.
+// A text without the marks at its start that combine with the letter before them.
+fn without_marks(text: &[u8]) -> &[u8] {
+    let mut rest = text;
+    for _ in 0..text.len() {
+        rest = match rest {
+            [first, second, others @ ..] if is_mark(*first, *second) => others,
+            _ => return rest,
+        };
+    }
+    rest
+}
+
+// Whether two words may be the same, by their first letters, if these are of ASCII.
+fn may_be_same(word: &[u8], other: &[u8]) -> bool {
+    match (word.first(), other.first()) {
+        (Some(one), Some(two)) if one.is_ascii() && two.is_ascii() => one.eq_ignore_ascii_case(two),
+        (Some(_), Some(_)) | (None, None) => true,
+        _ => false,
+    }
+}
+
+// Whether two words are the same in small letters without accents.
 pub(crate) fn is_same(word: &[u8], other: &[u8]) -> bool {
-    if word.len() != other.len() {
+    if !may_be_same(word, other) {
         return false;
     }
-    for place in 0..word.len() {
-        if small_at(word, place) != small_at(other, place) {
+    let (mut one, mut two) = (word, other);
+    for _ in 0..word.len() {
+        let (letter, length) = first_letter(one);
+        let (own, own_length) = first_letter(two);
+        if letter != own {
             return false;
         }
+        one = without_marks(behind(one, length));
+        two = without_marks(behind(two, own_length));
     }
-    true
+    one.is_empty() && two.is_empty()
 }
 
-// Whether a word is one of these, in small or great letters.
+// Whether a word is one of these, in small letters without accents.
 pub(crate) fn is_one_of(word: &[u8], words: &[&str]) -> bool {
     words.iter().any(|own| is_same(word, own.as_bytes()))
 }
 
-/// The first word of a title that is one of these, in small or great letters. Words of a title stand between signs that are no
+/// Whether a text without blanks beside it is one of these words, as words of titles are compared.
+pub fn is_word(text: &[u8], words: &[&str]) -> bool {
+    is_one_of(text.trim_ascii(), words)
+}
+
+// Whether a word has one of two signs or more within it, as those of China and Japan stand without blanks.
+fn has_signs(word: &[u8], own: &[u8]) -> bool {
+    let are_signs = own.first().is_some_and(|byte| 0xE3 <= *byte) && own.len() >= 6;
+    are_signs && word.windows(own.len()).any(|bytes| bytes == own)
+}
+
+// Whether one of these is a word of a title, or signs within it.
+fn is_within(word: &[u8], words: &[&str]) -> bool {
+    let has_more = word.len() > 6 && !word.is_ascii();
+    is_one_of(word, words) || has_more && words.iter().any(|own| has_signs(word, own.as_bytes()))
+}
+
+/// The first word of a title that is one of these, in small letters without accents, or has such signs of China or Japan. Words of a title stand between signs that are no
 /// letters and no digits, and are parted where a great letter follows a small one, and between letters and digits.
 pub fn first_word<'t>(title: &'t [u8], words: &[&str]) -> Option<&'t [u8]> {
     for place in 0..title.len() {
         let word = word_from(title, place);
-        if is_one_of(word, words) {
+        if !word.is_empty() && is_within(word, words) {
             return Some(word);
         }
     }

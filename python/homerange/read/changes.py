@@ -15,6 +15,7 @@ from numpy.typing import NDArray
 
 from ..errors import refuse
 from .cells import cells_of, is_time, row_named
+from .letters import without_accents
 from .text import Column, is_of_rows, is_there, plain
 
 if TYPE_CHECKING:
@@ -30,10 +31,16 @@ JUDGED = {
 # Words of titles that say so too, and words and titles beside which one of the first says nothing.
 WORDS_OF_MARKS = {
     "outlier", "outliers", "outlying", "isoutlier", "isoutliers", "valid", "isvalid", "invalid", "isinvalid", "visible", "isvisible",
-    "invisible", "ausreisser", "ausreißer", "valide", "valido", "válido", "aberrant"}
+    "invisible", "ausreisser", "ausreißer", "valide", "valido", "aberrant", "valida", "invalido", "invalida", "invalide", "gultig",
+    "ungultig", "gueltig", "ungueltig", "avvikare", "avvikande", "avviker", "avvikende", "uitbijter", "uitbijters", "uitschieter",
+    "uitschieters", "geldig", "ongeldig", "gyldig", "ugyldig", "giltig", "ogiltig", "platny", "platna", "platne", "neplatny", "neplatna",
+    "neplatne", "wazny", "wazne", "niewazny", "niewazne", "veljaven", "veljavna", "veljavno", "neveljaven", "neveljavna", "osamelec",
+    "odlehla", "odlehly", "odlahla", "odstajacy", "odstajaca", "kiugro", "ervenyes", "ervenytelen", "poikkeava", "aykiri", "gecerli",
+    "gecersiz", "aberrante", "atipico", "atipica", "anomalo", "anomala", "valabil", "выброс", "выбросы", "деиствителен"}
 WORDS_OF_GRIDS = {
     "zone", "zones", "zona", "zonas", "zonen", "huso", "fuso", "fuseau", "utm", "utmz", "utmzone", "zonenumber", "zoneletter", "mgrs",
-    "epsg", "srid", "crs", "srs"}
+    "strefa", "pasmo", "cona", "pojas", "пояс", "зона", "dilim", "dilimi", "fus", "sone", "vyohyke", "josla", "juosta", "ζωνη", "epsg",
+    "srid", "crs", "srs"}
 WORDS_OF_SATELLITES = {"sat", "sats", "satellite", "satellites", "sv", "svs"}
 NO_MARKS = {"argos-valid-location-algorithm", "argos-valid-location-manual", "outlier-comments"}
 MARKS = {"use", "visible", "manually-marked-outlier", "algorithm-marked-outlier", "import-marked-outlier", "manually-marked-valid"}
@@ -130,9 +137,9 @@ def says_which_count(title: str) -> bool:
 
 
 def words_of(title: str) -> set[str]:
-    """The words of a title, in small letters: docs/TABLES.md, Titles."""
+    """The words of a title, in small letters without accents: docs/TABLES.md, Titles."""
     letters = "a-z\u00c0-\u1fff\u3000-\U0010ffff"  # small ones, and all that are none of ASCII
-    return {word.lower() for word in re.findall(f"[A-Z]*[{letters}]+|[A-Z]+|[0-9]+", title)}
+    return {without_accents(word) for word in re.findall(f"[A-Z]*[{letters}]+|[A-Z]+|[0-9]+", title)}
 
 
 def may_be_mark(title: str) -> bool:

@@ -165,7 +165,8 @@ REFUSED = [
            ("CRS (code)", "EPSG:32633", "EPSG:32634"), ("fuseau.utm", "031", "032"))),
     *((f"offsets of times under {title}", [], f"id,time,x,y,{title}\na,2024-05-01 01:00,1000,2000,{cell}\na,2024-05-01 02:00,1030,2040,{cell}\n".encode(), None,
        f"column 5 '{title}' says of which zone times are") for title, cell in (
-           ("UTC offset (h)", "2"), ("UTC_offset_h", "-3"), ("utc_offset_hours", "+5.5"), ("GMT offset (h)", "+02:00"), ("TZ (h)", "2"), ("UTC.offset..h.", "2.0"),
+           ("UTC offset (h)", "2"), ("UTC_offset_h", "-3"), ("utc_offset_hours", "+5.5"), ("GMT offset (h)", "+02:00"), ("TZ (h)", "2"), ("tijdzone", "+02:00"), ("strefa czasowa", "+2"), ("časové pásmo", "+02:00"), ("časovna cona", "2"), ("vremenska zona", "CET"), ("часовой пояс", "+3"), ("aikavyöhyke", "+2"),
+           ("tidszon", "+1"), ("tidssone", "+1"), ("tidszone", "+1"), ("időzóna", "CET"), ("saat dilimi", "+3"), ("fuso orario", "CET"), ("huso horario", "-5"), ("fuseau horaire", "+1"), ("time offset", "2"), ("UTC.offset..h.", "2.0"),
            ("utcOffset", "2"), ("utc_offset_min", "120"), ("offset to UTC (s)", "7200"), ("tz_name", "Europe/Vienna"), ("time.zone.code", "CET"), ("GMT", "+2"),
            ("fuso orario", "UTC+1"), ("UTC diff", "+0200"))),
     *((f"hours beside days as {cell}", [], f"id,date,x,y,{title}\na,2024-05-01,1000,2000,{cell}\na,2024-05-01,1030,2040,{other}\n".encode(), None,
@@ -187,7 +188,7 @@ REFUSED = [
     *((f"a side in words beside degrees, {one}", [], f"id,date,lon,lat,side\na,2024-05-01,15.8,46.3,{one}\na,2024-05-02,15.8,46.3,{other}\n".encode(), None,
        "column 5 'side' has S or W beside degrees above 0, and is not read: if they lie there, write them with a minus and remove it, and else write its values otherwise")
       for one, other in (("south", "north"), ("S.", "N."), ("SOUTH", "S"), ("Sud", "Nord"), ("Southern hemisphere", "northern hemisphere"), ("süd", "Norden"), ("sur", "sur"),
-                         ("West", "East"), ("w.", "E"), ("Ouest", "Est"), ("oeste", "leste"), ("west longitude", "west longitude"), ("O", "E"))),
+                         ("West", "East"), ("w.", "E"), ("Ouest", "Est"), ("oeste", "leste"), ("západní", "východní"), ("ZAPADNI", "vychodni"), ("batı", "doğu"), ("güney", "kuzey"), ("южное полушарие", "северное полушарие"), ("南纬", "北纬"), ("nyugati", "keleti"), ("west longitude", "west longitude"), ("O", "E"))),
     *((f"days beside {title} as {one}", [], f"id,date,x,y,{title}\na,2024-05-01,1000,2000,{one}\na,2024-05-01,1030,2040,{other}\n".encode(), None,
        f"column 5 '{title}' has days with clocks, and the times that are read are days alone: name it as the time, as by --time '{title}', or remove it")
       for title, one, other in (("gps_time", "2024-05-01 10:30:00", "2024-05-01 09:00:00"), ("Acquisition", "2024-05-01T10:30Z", "2024-05-01T00:00Z"), ("stamp", "1/5/24 3:30 PM", "1/5/24 12:00 AM"),
@@ -205,10 +206,11 @@ REFUSED = [
     *((f"halves of the day as {one!r} and {other!r} under {title}", [], f"id,time,x,y,{title}\na,2024-05-01 01:00,1000,2000,{one}\na,2024-05-01 01:30,1030,2040,{other}\n".encode(), None,
        f"column 5 '{title}' has halves of the day, and is not read: write them AM and PM and join it to the time") for title, one, other in (
            ("half", "AM ", " pm"), ("half", "a. m.", "p. m."), ("h", "a.\u00a0m.", "p.\u202fm."), ("note", "vorm.", "nachm."), ("x5", "Vormittag", "NACHMITTAG"), ("pul dne", "dop.", "odp."), ("dan", "dopoldne", "popoldne"),
-           ("napszak", "délelőtt", "DÉLUTÁN"), ("ampm", "0", "1"), ("AM/PM", "A", "P"), ("am.pm", "morning", "evening"), ("AmPm", "1", "1"))),
+           ("napszak", "délelőtt", "DÉLUTÁN"), ("ampm", "0", "1"), ("AM/PM", "A", "P"), ("A/P", "A", "P"), ("ap", "a", "p"), ("is_pm", "0", "1"), ("isPM", "false", "true"), ("ispm", "n", "y"), ("x6", "上午", "下午"), ("x7", "午前", "午後"), ("x8", "de.", "du."),
+           ("x9", "fm", "em"), ("x9", "f.m.", "e.m."), ("moment", "matin", "soir"), ("moment", "matin", "après-midi"), ("moment", "MATIN", "APRES-MIDI"), ("am.pm", "morning", "evening"), ("AmPm", "1", "1"))),
     *((f"clocks of 12 hours beside days, {one}", [], f"id,date,x,y,c\na,2024-05-01,1000,2000,{one}\na,2024-05-01,1030,2040,{other}\n".encode(), None,
        "column 5 'c' has hours, which the days of the time have not: join them, as by --time 'date,c', or remove it") for one, other in (
-           ("03:00 nachm.", "04:00 nachm."), ("3:00 AM", "3:30 pm"), ("3 PM", "4 PM"), ("3pm", "11am"), ("10:30 ", "11:00 "), ("03:00:00 a. m.", "04:00:00 p. m."), ("03:00 dop.", "03:00 odp."), ("3:00 du matin", "4:00 du soir"))),
+           ("03:00 nachm.", "04:00 nachm."), ("3:00 AM", "3:30 pm"), ("3 PM", "4 PM"), ("3pm", "11am"), ("10:30 ", "11:00 "), ("03:00:00 a. m.", "04:00:00 p. m."), ("03:00 dop.", "03:00 odp."), ("03:00 delelott", "03:00 délután"), ("上午3:00", "下午 4:00"), ("午後3:00", "午前 4:00:10"), ("3:00 du matin", "4:00 du soir"))),
     *((f"a half of the day behind a time, {cell}", words, f"id,date,x,y\na,{cell},1000,2000\n".encode(), 1, f"date is '{cell}' and not a time {what}") for words, cell, what in (
         ([], "2024-05-01 03:00 nachm.", "such as 2024-05-01 00:30:04: write its half of the day as PM at its end, and name its form, as by --time-format '%Y-%m-%d %I:%M %p'"),
         ([], "01.05.2024 03:00:10 vorm.", "such as 2024-05-01 00:30:04: write its half of the day as AM at its end, and name its form, as by --time-format '%d.%m.%Y %I:%M:%S %p'"),
@@ -218,6 +220,9 @@ REFUSED = [
     ("a clock of 12 hours alone", [], b"id,time,x,y\na,3:00 nachm.,1000,2000\n", 1, "which is a clock without a day: name the column of the day too"),
     ("a clock beside days", [], b"id,date,x,y,Uhrzeit\na,2024-05-01,1000,2000,10:30\na,2024-05-01,1030,2040,9:15\n", None, "column 5 'Uhrzeit' has hours, which the days of the time have not: join them, as by --time 'date,Uhrzeit', or remove it"),
     ("hours beside days", [], b"id,date,x,y,hora\na,2024-05-01,1000,2000,7\na,2024-05-01,1030,2040,23\n", None, "column 5 'hora' has hours, which the days of the time have not: join them, as by --time 'date,hora' --time-format '%Y-%m-%d %H', or remove it"),
+    *((f"hours beside days under {title}", [], f"id,date,x,y,{title}\na,2024-05-01,1000,2000,7\na,2024-05-01,1030,2040,23\n".encode(), None,
+       f"column 5 '{title}' has hours, which the days of the time have not: join them, as by --time 'date,{title}' --time-format '%Y-%m-%d %H', or remove it")
+      for title in ("uur", "Hodina", "godzina", "ura", "час", "klo", "óra", "saat", "Time (h)", "time_h", "heures", "HODINY (0-23)")),
     ("an offset of times that begins as UTC", [], b"id,time,x,y,utc_offset\na,2024-03-31 00:00,1000,2000,Z\na,2024-03-31 00:30,1030,2040,+00:00\na,2024-03-31 01:30,1060,2040,+01:00\n", None,
      "column 5 'utc_offset' says of which zone times are"),
     ("an offset of times", [], b"id,time,x,y,utc_offset\na,2024-05-01 01:00,1000,2000,+2\na,2024-05-01 02:00,1030,2040,+2\n", None, "column 5 'utc_offset' says of which zone times are"),
@@ -270,7 +275,7 @@ REFUSED = [
        f"column 5 '{title}' says that times are by the clock of a summer (record 2), and they are read as those of UTC: name their zone, as by --tz Europe/Ljubljana, or write the offset behind each time, and remove it")
       for words, title, cell, other in (
           ([], "DST", "1", "0"), ([], "dst_flag", "yes", "no"), ([], "summer_time", "TRUE", "FALSE"), ([], "isdst", "1.0", "0.0"), (["--tz", "UTC"], "isDST", "Y", "N"), ([], "Sommerzeit", "ja", "nein"), ([], "heure d'été", "oui", "non"),
-          ([], "horario_verano", "si", "no"), ([], "letní čas", "ano", "ne"), ([], "Daylight Saving Time", "x", ""), ([], "dst", "DST", "ST"))),
+          ([], "horario_verano", "si", "no"), ([], "daylight saving", "1", "0"), ([], "CEST", "yes", "no"), ([], "ora legale", "si", "no"), ([], "Letni cas", "1", "0"), ([], "letní čas", "ano", "ne"), ([], "Daylight Saving Time", "x", ""), ([], "dst", "DST", "ST"))),
     *((f"a summer time that the clock has not: {what}", ["--tz", "Europe/Ljubljana"], f"id,time,x,y,dst\na,{one}\na,{two}\n".encode(), None,
        f"column 5 'dst' says otherwise than the clock of Europe/Ljubljana which times are of the summer (record {record}): write the offset behind each time, as in 2024-05-01 00:30+02:00, or name their own zone, by --tz, and remove it")
       for what, one, two, record in (

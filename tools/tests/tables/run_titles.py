@@ -18,6 +18,8 @@ UTC = f"{OF_NO_ZONE}: name their zone, as by --tz "
 OFFSET = ": name a zone of that offset, by --tz"
 METRES = ", and coordinates are in metres: write metres, and rename the column"
 DEGREES = ", and longitude and latitude are in degrees: write degrees with decimals, and rename the column"
+UNKNOWN_METRES = ", which is not known as metres: if its numbers are in metres, rename the column, and else write metres"
+UNKNOWN_DEGREES = ", which is not known as degrees: if its numbers are in degrees with decimals, rename the column, and else write these"
 NO_MARKS = " (a fix is not used where 'visible' is false, or 'manually-marked-outlier' is true)"
 EXAMPLE = "Europe/Ljubljana"
 NO_RECORD = "there is no record below the titles"
@@ -141,16 +143,26 @@ REFUSED = [
         "ftus inches hm dam kilomètres kilómetros Dezimeter millimetre Hectometres kilometers nmi").split()),
     (["--easting", "eastingDecimeters", "--northing", "y"], "id,date,eastingDecimeters,y", f"column 3 'eastingDecimeters' says Decimeters{METRES}"),
     (["--easting", "x..decimetres.", "--northing", "y"], "id,date,x..decimetres.,y", f"column 3 'x..decimetres.' says decimetres{METRES}"),
-    (["--easting", "x", "--northing", "y [smoots]"], "id,date,x,y [smoots]", f"column 4 'y [smoots]' says smoots{METRES}"),
+    (["--easting", "x", "--northing", "y [smoots]"], "id,date,x,y [smoots]", f"column 4 'y [smoots]' says smoots{UNKNOWN_METRES}"),
     (["--lon", "lon", "--lat", "lat (grads)"], "id,date,lon,lat (grads)", f"column 4 'lat (grads)' says grads{DEGREES}"),
     (["--lon", "lonArcmin", "--lat", "lat"], "id,date,lonArcmin,lat", f"column 3 'lonArcmin' says Arcmin{DEGREES}"),
     (["--lon", "lonE7", "--lat", "latE7"], "id,date,lonE7,latE7", f"column 3 'lonE7' says E7{DEGREES}"),
     (["--lon", "lon (1e-7)", "--lat", "lat"], "id,date,lon (1e-7),lat", f"column 3 'lon (1e-7)' says e-7{DEGREES}"),
-    (["--lon", "lon (ms)", "--lat", "lat"], "id,date,lon (ms),lat", f"column 3 'lon (ms)' says ms{DEGREES}"),
+    (["--lon", "lon (ms)", "--lat", "lat"], "id,date,lon (ms),lat", f"column 3 'lon (ms)' says ms{UNKNOWN_DEGREES}"),
+    (["--lon", "lon", "--lat", "lat (Zaunkoenig)"], "id,date,lon,lat (Zaunkoenig)", f"column 4 'lat (Zaunkoenig)' says Zaunkoenig{UNKNOWN_DEGREES}"),
+    *((["--easting", title, "--northing", "b"], f"id,date,{title},b", f"column 3 '{title}' says {word}{METRES}") for title, word in (
+        ("xkm", "km"), ("Ykm", "km"), ("xdm", "dm"), ("eastkm", "km"), ("eastingcm", "cm"), ("x (километры)", "километры"), ("x (KILOMETRY)", "KILOMETRY"),
+        ("x (kilo\u0301metros)", "kilo\u0301metros"), ("x (км)", "км"), ("x (千米)", "千米"))),
+    *((["--lon", title, "--lat", "b"], f"id,date,{title},b", f"column 3 '{title}' says {word}{DEGREES}") for title, word in (
+        ("lonrad", "rad"), ("Longitudegon", "gon"), ("lon (radiány)", "radiány"), ("lon (Grad)", "Grad"))),
     *((["--easting", f"x {word}", "--northing", "y"], f"id,date,x {word},y", NO_RECORD) for word in (
-        "(m)", "[metres]", "(UTM)", "(UTM 33N)", "{EPSG:2154}", "(Mètres)", "(raw)", "perimeter", "milestone", "()", "(°)")),
+        "(m)", "[metres]", "(UTM)", "(UTM 33N)", "{EPSG:2154}", "(Mètres)", "(raw)", "perimeter", "milestone", "()", "(°)", "(м)", "(metry)", "(метры)", "(METRIÄ)", "(米)", "(公尺)", "(JTSK)", "(S-JTSK)",
+        "(Krovák)", "(krovak)", "(grid)", "(Amersfoort)", "(fix)", "(nest)", "(východ)", "nightkm", "maxkm")),
     *((["--lon", f"lon {word}", "--lat", "lat"], f"id,date,lon {word},lat", NO_RECORD) for word in (
-        "(deg)", "[°]", "(WGS84)", "(decimal degrees)", "(E)", "graduate", "E12", "e_7")),
+        "(deg)", "[°]", "(WGS84)", "(decimal degrees)", "(E)", "graduate", "E12", "e_7", "(best)", "(Ost)", "(Greenwich)", "(décimal)", "(graden)",
+        "(Dezimalgrad)", "(度)")),
+    *((["--lon", title, "--lat", "b"], f"id,date,{title},b", NO_RECORD) for title in (
+        "Länge (Dezimalgrad)", "Lengte (graden)", "Délka (stupně)", "De\u0301lka (stupne\u030c)", "Долгота (градусы)", "pituus (astetta)", "经度 (度)", "conrad", "Länge (Grad)", "Längdgrad [grad]")),
     ([], "id,date,easting,northing,Easting,Northing", "column 3 'easting' and column 5 'Easting' both fit the easting: name one, as by --easting easting"),
     ([], "id,date,x,y,X,Y", NO_RECORD),
     ([], "id,date,easting,northing,Easting", NO_RECORD),
@@ -158,9 +170,10 @@ REFUSED = [
     (["--lon", "longitude", "--lat", "latitude"], "id,date,longitude,latitude,Longitude,Latitude", NO_RECORD),
     ([], "id,date,x,y,X", NO_RECORD),
     *(([], f"id,date,x,y,{title}", f"column 5 '{title}' may have marks, but is not read: rename or remove it{NO_MARKS}") for title in (
-        "Outlier (y/n)", "outlier?", "outlier_flag", "flagOutlier", "visible (Movebank)", "isInvalid", "is.valid.fix", "outlier1", "Ausreißer")),
+        "Outlier (y/n)", "outlier?", "outlier_flag", "flagOutlier", "visible (Movebank)", "isInvalid", "is.valid.fix", "outlier1", "Ausreißer", "Gültig", "gultig", "UNGÜLTIG", "avvikare", "uitbijter", "Válido", "va\u0301lido", "neplatné",
+        "выброс", "Aykırı değer")),
     *(([], f"id,date,x,y,{title}", NO_RECORD) for title in (
-        "argos:valid-location-algorithm", "outlier comments", "validity", "visibility", "invalidated", "visible satellites", "satsVisible")),
+        "argos:valid-location-algorithm", "outlier comments", "validity", "visibility", "invalidated", "visible satellites", "satsVisible", "validierung", "gültigkeit")),
     ([], "id,date,x,y,use,outlier_flag", NO_RECORD),
     (["--time", "UTC -11"], "id,UTC -11,lon,lat", f"column 2 'UTC -11' says UTC -11{UTC}Etc/GMT+11"),
     (["--time", "day,Local.time"], "id,day,Local.time,lon,lat", f"column 3 'Local.time' says Local{UTC}Europe/Ljubljana"),
@@ -202,6 +215,11 @@ CLOCKS = [
     ("time (+3)", "+3", "Etc/GMT-3"),
     ("time +02:00", "+02:00", "Etc/GMT-2"),
     ("time +10", "+10", "Etc/GMT-10"),
+    ("time_+3", "+3", "Etc/GMT-3"),
+    ("time+02:00", "+02:00", "Etc/GMT-2"),
+    ("cas SELC", "SELC", EXAMPLE),
+    ("mi\u0301stni\u0301 c\u030cas", "mi\u0301stni\u0301", EXAMPLE),
+    ("当地时间", "当地时间", EXAMPLE),
     ("time (+2h)", "+2", "Etc/GMT-2"),
     ("time (GMT + 2)", "GMT + 2", "Etc/GMT-2"),
     ("time_utc_plus_2", "utc_plus_2", "Etc/GMT-2"),
@@ -255,11 +273,11 @@ OF_UTC = [
 ]
 # Titles of times that say no clock.
 NO_CLOCKS = [
-    "x+1", "time-2", "fix-1", "date_2024-05-01", "+3", "time+02:00", "time_+3", "time -2", "time -0530", "time - 05:00", "time + 2",
+    "x+1", "time-2", "fix-1", "date_2024-05-01", "+3", "time+2", "time -2", "time -0530", "time - 05:00", "time + 2",
     "date 2024 -05-01", "time +02:00:00", "time (+15)", "time +2:60", "time (+123)", "time (-9999)", "time +2hours", "time (+2-3)", "time +5.3", "time (+5.)",
     "time_z", "z", "cat", "time cat", "EAT", "Ist", "ist_zeit", "Art", "pet_time", "cot", "time west", "wet time", "Ast", "Pkt.Zeit", "best time", "time/Asia",
     "Date (EU/US)", "date/time", "Asia/2024", "Asia", "Eurasia/Vienna", "time (raw)", "time (GPS)", "time [sensor]", "time..raw.", "GPS Fix Time", "start time",
-    "time (s)", "time (fix)", "Date (YYYYMMDD)", "Datum (TTMMJJJJ)", "Time (hhmm)", "timestamp (ISO)", "time (posixct)", "standardized time", "time standard",
+    "time (s)", "time (sec)", "sec", "time sec", "time (uur)", "čas (hodina)", "DATE ET HEURE", "date et heure", "et_time", "ct_time", "时间", "日期 (时间)", "time (fix)", "Date (YYYYMMDD)", "Datum (TTMMJJJJ)", "Time (hhmm)", "timestamp (ISO)", "time (posixct)", "standardized time", "time standard",
     "summer", "winter_date", "vienna_fix", "Date...Time.", "time.", "date (d)", "central_fix", "čas", "ČAS", "datum a čas", "Datum in ura", "aika", "päivämäärä ja kello", "datum en tijd", "Dato og klokkeslett",
     "tidpunkt", "время", "Дата и время", "data i godzina", "data e hora", "data e ora", "dátum és idő", "Date et heure", "letni_datum", "nyári dátum", "zimowy_fix",
 ]
@@ -275,7 +293,7 @@ OTHER_CLOCKS = [
 PLACES = [
     ("Sommerzeit", "Sommerzeit"), ("Winterzeit", "Winterzeit"), ("summer time", "summer"), ("time (winter)", "winter"), ("Zeit_Sommer", "Sommer"),
     ("daylight time", "daylight"), ("standard time", "standard"), ("StandardTime", "Standard"), ("heure d'été", "été"), ("Heure d'hiver", "hiver"),
-    ("hora de verano", "verano"), ("Pacific time", "Pacific"), ("Mountain time", "Mountain"), ("time (Central)", "Central"), ("Central", "Central"),
+    ("hora de verano", "verano"), ("hora Chile", "Chile"), ("time Argentina", "Argentina"), ("time ET", "ET"), ("TIME_PT", "PT"), ("北京时间", "北京时间"), ("Letni\u0301 c\u030cas", "Letni\u0301"), ("Pacific time", "Pacific"), ("Mountain time", "Mountain"), ("time (Central)", "Central"), ("Central", "Central"),
     ("Eastern", "Eastern"), ("timestamp_eastern", "eastern"), ("Alaska time", "Alaska"), ("Atlantic Date", "Atlantic"), ("Vienna time", "Vienna"),
     ("time (Vienna)", "Vienna"), ("time..Vienna.", "Vienna"), ("Berlin", "Berlin"), ("Uhrzeit Wien", "Wien"), ("time (Los Angeles)", "Angeles"),
     ("Fecha (Santiago)", "Santiago"), ("time (Eisenstadt)", "Eisenstadt"), ("time (Österreich)", "Österreich"), ("time..Eisenstadt.", "Eisenstadt"),
@@ -295,12 +313,16 @@ LONGITUDES = [
     ("Lon (°W)", "W"), ("W", "W"), ("°W", "W"), ("W Longitude", "W"), ("Long. W.", "W"), ("Lon..W.", "W"), ("lonWest", "West"), ("lon_w_dd", "w"),
     ("Longitude (Western hemisphere)", "Western"), ("degrees west of Greenwich", "west"), ("Longitud Oeste", "Oeste"), ("longitude ouest", "ouest"),
     ("Longitudine (ovest)", "ovest"), ("Länge westlich", "westlich"), ("Longitude (O)", "O"), ("Longitud O", "O"), ("Longitude W (Garmin)", "W"),
-    ("Longitude West [deg]", "West"), ("West", "West"), ("lon (positive W)", "W"), ("longitude (west of Greenwich)", "west"), ("lon west WGS84", "west"), ("Lon W GPS", "W"), ("southing", "southing"),
+    ("Longitude West [deg]", "West"), ("West", "West"), ("lon (positive W)", "W"), ("longitude (west of Greenwich)", "west"), ("lon west WGS84", "west"), ("Lon W GPS", "W"), ("západní délka", "západní"), ("ZÁPADNÍ DÉLKA", "ZÁPADNÍ"), ("zapadni delka", "zapadni"),
+    ("za\u0301padni\u0301 de\u0301lka", "za\u0301padni\u0301"), ("západní zeměpisná délka", "západní"), ("długość zachodnia", "zachodnia"), ("batı boylamı", "batı"), ("BATI", "BATI"),
+    ("nyugati hosszúság", "nyugati"), ("läntinen pituus", "läntinen"), ("lantinen", "lantinen"), ("западная долгота", "западная"), ("ΔΥΤΙΚΟ ΜΗΚΟΣ", "ΔΥΤΙΚΟ"), ("västlig longitud", "västlig"),
+    ("zahodna dolžina", "zahodna"), ("westerlengte", "westerlengte"), ("西经", "西经"), ("经度(西经)", "西经"), ("southing", "southing"),
 ]
 LATITUDES = [
     ("Latitude South", "South"), ("lat_S", "S"), ("lat_s", "s"), ("Lat (°S)", "S"), ("Lat (deg S)", "S"), ("Southing", "Southing"), ("S", "S"),
     ("South latitude", "South"), ("Breite (südlich)", "südlich"), ("Breite Süd", "Süd"), ("latitud sur", "sur"), ("Latitude Sul", "Sul"), ("latitude sud", "sud"),
-    ("Lat..S.", "S"), ("latSouth", "South"), ("Lat S dd", "S"), ("southern latitude", "southern"), ("lat (sued)", "sued"),
+    ("Lat..S.", "S"), ("latSouth", "South"), ("Lat S dd", "S"), ("southern latitude", "southern"), ("lat (sued)", "sued"), ("южная широта", "южная"), ("ЮЖНАЯ ШИРОТА", "ЮЖНАЯ"), ("güney enlemi", "güney"), ("déli szélesség", "déli"),
+    ("eteläinen leveys", "eteläinen"), ("jižní šířka", "jižní"), ("južna širina", "južna"), ("szerokość południowa", "południowa"), ("sørlig bredde", "sørlig"), ("νότιο πλάτος", "νότιο"), ("南纬", "南纬"),
 ]
 # Titles of eastings that say the west or the south, and of northings.
 EASTINGS = [("Westing", "Westing"), ("westings (m)", "westings"), ("x_west", "west"), ("X (West)", "West"), ("Easting (West)", "West"), ("x ouest", "ouest"), ("Southing", "Southing")]
@@ -312,23 +334,27 @@ NO_SIDES = [
     ("lon", "lon West Papua", "lat South Georgia"), ("lon", "Länge (O)", "Breite (N)"), ("lon", "lon_s1", "lat_s1"), ("lon", "longitude WGS", "latitude WGS"),
     ("easting", "x_swiss", "y_swiss"), ("easting", "X South Africa", "Y South Africa"), ("easting", "x_W", "y_S"), ("easting", "x_s", "y_s"),
     ("easting", "Easting (UTM 36 South)", "Northing (UTM 36 South)"), ("easting", "x_lambert_sud", "y_lambert_sud"), ("easting", "x_west_coast", "y_south_coast"),
+    ("lon", "východní délka", "severní šířka"), ("lon", "délka (východ/západ)", "šířka (sever/jih)"), ("lon", "东经", "北纬"),
     ("easting", "Easting/Westing", "Northing/Southing"), ("easting", "x west camera", "y sur carte"),
 ]
 # Titles of longitudes that say the latitude, of latitudes that say the longitude, and of eastings and northings likewise.
 OF_NORTH = [
     ("Latitude", "Latitude"), ("lat", "lat"), ("gps.lat", "lat"), ("Breite", "Breite"), ("GEO_BREITENGRAD", "BREITENGRAD"), ("geogr. Breite (°)", "Breite"),
-    ("zeměpisná šířka", "šířka"), ("Šířka", "Šířka"), ("Широта", "Широта"), ("szerokość geogr.", "szerokość"), ("latitud (grados)", "latitud"), ("Northing", "Northing"),
+    ("zeměpisná šířka", "šířka"), ("Šířka", "Šířka"), ("Широта", "Широта"), ("szerokość geogr.", "szerokość"), ("latitud (grados)", "latitud"), ("Northing", "Northing"), ("zemepisna sirka", "sirka"), ("szerokosc", "szerokosc"), ("s\u030ci\u0301r\u030cka", "s\u030ci\u0301r\u030cka"),
+    ("UTM_N", "N"), ("N_utm", "N"), ("utmN", "N"), ("纬度", "纬度"), ("GPS纬度", "GPS纬度"), ("enlem", "enlem"), ("ΠΛΑΤΟΣ", "ΠΛΑΤΟΣ"),
     ("Hochwert", "Hochwert"), ("utm_northing_m", "northing"), ("north", "north"), ("N", "N"), ("Nord", "Nord"),
 ]
 OF_EAST = [
     ("Longitude", "Longitude"), ("lon", "lon"), ("long_wgs84", "long"), ("Länge", "Länge"), ("GPS LONGITUDE", "LONGITUDE"), ("dolžina", "dolžina"),
     ("Долгота", "Долгота"), ("Rechtswert", "Rechtswert"), ("Easting", "Easting"), ("UTM33N_Easting", "Easting"), ("E", "E"), ("est", "est"),
+    ("DELKA", "DELKA"), ("dlugosc geogr.", "dlugosc"), ("UTM_E", "E"), ("E_utm", "E"), ("经度", "经度"), ("経度", "経度"), ("boylam", "boylam"), ("ilguma", "ilguma"),
 ]
 # Titles of two coordinates that say no other axis.
 NO_AXES = [
     ("lon", "lon_lat", "lat_lon"), ("lon", "x", "y"), ("lon", "long (N/S: lat)", "lat (E/W: lon)"), ("easting", "y", "x"), ("easting", "X", "Y"), ("easting", "Y (PL-2000)", "X (PL-2000)"),
     ("easting", "latlong_x", "latlong_y"), ("easting", "x_utm33n", "y_utm33n"), ("easting", "x UTM 33 North", "y UTM 33 North"), ("easting", "E_north_grid", "N_east_grid"),
     ("lon", "lateral_x", "longest_y"), ("easting", "Rechtswert", "Hochwert"), ("easting", "E", "N"), ("easting", "Ost", "Nord"),
+    ("easting", "UTM_E", "UTM_N"), ("easting", "x_utm_n", "y_utm_e"), ("lon", "经度", "纬度"), ("lon", "Délka", "Šířka"), ("easting", "E_UTM33N", "N_UTM33N"),
 ]
 # Titles of coordinates in metres, and in degrees, that say a multiple or a part of their unit, and how.
 MULTIPLES = [
