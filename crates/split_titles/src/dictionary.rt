@@ -1340,10 +1340,11 @@ pub const AFTERNOONS_BEHIND: [&str; 30] = [
     "em",
 ];
 
-/// Halves of the day in small letters, which are other words in great ones: the one before noon, and the one behind it.
-pub const SMALL_FORENOON: &str = "fm";
+/// Halves of the day before noon in small letters, which are other words in great ones.
+pub const SMALL_FORENOONS: [&str; 1] = ["fm"];
 
-pub const SMALL_AFTERNOON: &str = "em";
+/// And behind noon.
+pub const SMALL_AFTERNOONS: [&str; 1] = ["em"];
 
 /// Titles of letters for sides, beside words for axes and sides.
 pub const SIDE_TITLES: [&str; 16] = [

@@ -1,17 +1,22 @@
 // Halves of the day, as they stand behind clocks of 12 hours, or in a column of their own.
 
 use crate::dictionary::{
-    AFTERNOONS, AFTERNOONS_BEHIND, FORENOONS, FORENOONS_BEHIND, HALF_TITLES, HALVES, SMALL_AFTERNOON,
-    SMALL_FORENOON,
+    AFTERNOONS, AFTERNOONS_BEHIND, FORENOONS, FORENOONS_BEHIND, HALF_TITLES, HALVES, SMALL_AFTERNOONS,
+    SMALL_FORENOONS,
 };
 use crate::words::{behind, has_word, is_one_of, is_one_word};
+
+// Whether a text is one of these, in their own letters.
+fn is_own(text: &[u8], words: &[&str]) -> bool {
+    words.iter().any(|own| text == own.as_bytes())
+}
 
 /// Whether a text names the half of the day behind noon; none where it names no half.
 pub fn half_named(text: &[u8]) -> Option<bool> {
     let half = text.trim_ascii();
-    if half == SMALL_FORENOON.as_bytes() || is_one_of(half, &FORENOONS) {
+    if is_own(half, &SMALL_FORENOONS) || is_one_of(half, &FORENOONS) {
         Some(false)
-    } else if half == SMALL_AFTERNOON.as_bytes() || is_one_of(half, &AFTERNOONS) {
+    } else if is_own(half, &SMALL_AFTERNOONS) || is_one_of(half, &AFTERNOONS) {
         Some(true)
     } else {
         None
