@@ -27,6 +27,7 @@ ghost use Rattle.split_said.specs.Order.{animals_in_order};
 use crate::missing::{tell_other_points, tell_unmet};
 use crate::passed::refuse_passed_over;
 use crate::placed::{choice_of, grid_of, moved_by, place};
+use crate::coarse::tell_coarse;
 use crate::predeployment::tell_predeployment;
 use crate::read::{read, refuse_maker, refuse_other_animals, shown};
 use crate::steps::{counts_by, fates_by, fixes_by, leave_out_by, names_by, records_by, tracks_by};
@@ -471,5 +472,6 @@ pub fn split_export<P: Progress>(
     tell_unmet(alloc, &mut said, bytes, asked, wish, &export)?;
     tell_predeployment(alloc, &mut said, &export)?;
     tell_unknown_words(alloc, &mut said, wish, &export)?;
+    tell_coarse(alloc, &mut said, asked.unit, &export)?;
     split_read(alloc, asked, wish, &form, export, said)
 }

@@ -4,6 +4,7 @@
 
 mod beside;
 mod chain;
+mod coarse;
 mod halves;
 mod joined;
 mod laws;

@@ -113,6 +113,55 @@ fn likeness_of_letters(alloc: Global, name: &[u8]) -> Result<Vec<u8>, OutOfMemor
     likeness(alloc, &letters_of(alloc, name)?)
 }
 
+// The Latin letter that a Cyrillic or a Greek one looks like; any other character as it is.
+fn latin_of(character: char) -> char {
+    match character {
+        '\u{391}' | '\u{410}' => 'A',
+        '\u{392}' | '\u{412}' => 'B',
+        '\u{421}' => 'C',
+        '\u{395}' | '\u{415}' => 'E',
+        '\u{397}' | '\u{41D}' => 'H',
+        '\u{399}' | '\u{406}' => 'I',
+        '\u{408}' => 'J',
+        '\u{39A}' | '\u{41A}' => 'K',
+        '\u{39C}' | '\u{41C}' => 'M',
+        '\u{39D}' => 'N',
+        '\u{39F}' | '\u{41E}' => 'O',
+        '\u{3A1}' | '\u{420}' => 'P',
+        '\u{405}' => 'S',
+        '\u{3A4}' | '\u{422}' => 'T',
+        '\u{3A7}' | '\u{425}' => 'X',
+        '\u{3A5}' | '\u{423}' => 'Y',
+        '\u{396}' => 'Z',
+        '\u{430}' => 'a',
+        '\u{441}' => 'c',
+        '\u{435}' => 'e',
+        '\u{456}' => 'i',
+        '\u{458}' => 'j',
+        '\u{3BF}' | '\u{43E}' => 'o',
+        '\u{440}' => 'p',
+        '\u{455}' => 's',
+        '\u{3BD}' => 'v',
+        '\u{445}' => 'x',
+        '\u{443}' => 'y',
+        _ => character,
+    }
+}
+
+// What a name has in common with those that look the same, with letters of other scripts: Latin letters for such that look like
+// them.
+fn looks_of(alloc: Global, name: &[u8]) -> Result<Vec<u8>, OutOfMemory> {
+    let letters = letters_of(alloc, name)?;
+    let Ok(text) = str::from_utf8(&letters) else {
+        return Ok(Vec::from_slice(alloc, name)?);
+    };
+    let mut looks = String::new(alloc);
+    for character in text.chars() {
+        looks.push(latin_of(character))?;
+    }
+    likeness(alloc, looks.as_bytes())
+}
+
 // That two names are alike, and what they differ in.
 fn alike_text(
     alloc: Global,
@@ -150,6 +199,7 @@ struct Known<'a> {
     by_likeness: IndexMap<Vec<u8>, &'a [u8]>,
     by_letters: IndexMap<Vec<u8>, &'a [u8]>,
     by_both: IndexMap<Vec<u8>, &'a [u8]>,
+    by_looks: IndexMap<Vec<u8>, &'a [u8]>,
     by_number: IndexMap<Vec<u8>, &'a [u8]>,
 }
 
@@ -168,8 +218,8 @@ fn tell_first(
 }
 
 // Says which names before this one may be meant as one with it: the first from which it differs in blanks or capitals, and the
-// first from which it differs in the form of letters, if that is another one; or else the first from which it differs in both;
-// and the first that is the same number, with other zeros.
+// first from which it differs in the form of letters, if that is another one; or else the first from which it differs in both,
+// or in letters of other scripts; and the first that is the same number, with other zeros.
 fn tell_name<'a>(
     alloc: Global,
     said: &mut Said,
@@ -179,6 +229,7 @@ fn tell_name<'a>(
     let alike = first_of(&mut known.by_likeness, likeness(alloc, name)?, name)?;
     let same = first_of(&mut known.by_letters, letters_of(alloc, name)?, name)?;
     let both = first_of(&mut known.by_both, likeness_of_letters(alloc, name)?, name)?;
+    let looks = first_of(&mut known.by_looks, looks_of(alloc, name)?, name)?;
     let number = Vec::from_slice(alloc, number_of(name))?;
     let equal = first_of(&mut known.by_number, number, name)?;
     tell_first(alloc, said, equal, name, "zeros")?;
@@ -189,6 +240,10 @@ fn tell_name<'a>(
     if alike.is_none() && same.is_none() {
         let what = "the form of letters and in blanks or capitals";
         tell_first(alloc, said, both, name, what)?;
+    }
+    if both.is_none() {
+        let what = "letters of other scripts that look the same";
+        tell_first(alloc, said, looks, name, what)?;
     }
     Ok(())
 }
@@ -203,6 +258,7 @@ pub(crate) fn tell_alike(
         by_likeness: IndexMap::new(alloc),
         by_letters: IndexMap::new(alloc),
         by_both: IndexMap::new(alloc),
+        by_looks: IndexMap::new(alloc),
         by_number: IndexMap::new(alloc),
     };
     for name in names.iter() {

@@ -42,3 +42,7 @@ returns-in_err-tell_predeployment-clause-refused g c = if_err c.from_residual-in
 pub returns-in_err-tell_unknown_words-clause-refused : goal.returns-in_err-tell_unknown_words-clause-refused
 returns-in_err-tell_unknown_words-clause-refused g c = if_err c.from_residual-in_err-tell_unknown_words.result
     (λ refusal is. inr (record { export = c.in_ok-export.export; is_export = c.in_ok-export.ensures.export; is_refused = inr is })) (search rules)
+
+pub returns-in_err-tell_coarse-clause-refused : goal.returns-in_err-tell_coarse-clause-refused
+returns-in_err-tell_coarse-clause-refused g c = if_err c.from_residual-in_err-tell_coarse.result
+    (λ refusal is. inr (record { export = c.in_ok-export.export; is_export = c.in_ok-export.ensures.export; is_refused = inr is })) (search rules)
