@@ -248,7 +248,7 @@ pub const NORTHS: [&str; 57] = [
 ];
 
 /// The west.
-pub const WESTS: [&str; 69] = [
+pub const WESTS: [&str; 68] = [
     "west",
     "western",
     "westerly",
@@ -278,7 +278,6 @@ pub const WESTS: [&str; 69] = [
     "västlig",
     "väster",
     "västra",
-    "oest",
     "occidentale",
     "ocidental",
     "vestic",
