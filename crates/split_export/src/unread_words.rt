@@ -76,11 +76,16 @@ fn is_offset(text: &[u8]) -> bool {
     }
 }
 
-// Whether a text is written as the name of a zone of time, as in `Europe/Vienna` and `CET`.
+// Whether a byte is a capital letter, or one of a letter that is none of ASCII.
+fn is_of_capital(byte: u8) -> bool {
+    byte.is_ascii_uppercase() || !byte.is_ascii()
+}
+
+// Whether a text is written as the name of a zone of time, as in `Europe/Vienna`, `CET` and `SELČ`.
 fn is_zone_name(text: &[u8]) -> bool {
-    let is_short = 3 <= text.len() && text.len() <= 5;
+    let is_short = 3 <= text.len() && text.len() <= 6;
     let starts = text.first().is_some_and(|byte| byte.is_ascii_alphabetic());
-    starts && text.contains(&b'/') || is_short && text.iter().all(|byte| byte.is_ascii_uppercase())
+    starts && text.contains(&b'/') || is_short && text.iter().all(|byte| is_of_capital(*byte))
 }
 
 /// Whether a text is an offset from UTC, or written as the name of a zone of time.

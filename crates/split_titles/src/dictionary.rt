@@ -248,7 +248,7 @@ pub const NORTHS: [&str; 57] = [
 ];
 
 /// The west.
-pub const WESTS: [&str; 69] = [
+pub const WESTS: [&str; 68] = [
     "west",
     "western",
     "westerly",
@@ -278,7 +278,6 @@ pub const WESTS: [&str; 69] = [
     "västlig",
     "väster",
     "västra",
-    "oest",
     "occidentale",
     "ocidental",
     "vestic",
@@ -445,7 +444,7 @@ pub const HEMISPHERES: [&str; 25] = [
 ];
 
 /// What else stands behind a side of degrees.
-pub const BEHIND_SIDES: [&str; 25] = [
+pub const BEHIND_SIDES: [&str; 32] = [
     "half",
     "positive",
     "pos",
@@ -471,6 +470,13 @@ pub const BEHIND_SIDES: [&str; 25] = [
     "földrajzi",
     "coğrafi",
     "γεωγραφικό",
+    "zemljepisna",
+    "zemljepisne",
+    "geograficky",
+    "geografski",
+    "geograafiline",
+    "ģeogrāfiskais",
+    "geografinė",
 ];
 
 /// Coordinates.
@@ -502,7 +508,7 @@ pub const OF_PLANES: [&str; 12] = [
 ];
 
 /// Places and groups, which are called by a side too, as are slopes.
-pub const PLACES_AND_GROUPS: [&str; 67] = [
+pub const PLACES_AND_GROUPS: [&str; 143] = [
     "site",
     "sites",
     "area",
@@ -570,6 +576,82 @@ pub const PLACES_AND_GROUPS: [&str; 67] = [
     "sitio",
     "lieu",
     "luogo",
+    "ort",
+    "orte",
+    "fläche",
+    "gemeinde",
+    "bezirk",
+    "landkreis",
+    "teilpopulation",
+    "gruppe",
+    "herde",
+    "rudel",
+    "hang",
+    "exposition",
+    "regione",
+    "comarca",
+    "località",
+    "localidad",
+    "localité",
+    "localidade",
+    "paraje",
+    "finca",
+    "provincia",
+    "município",
+    "commune",
+    "canton",
+    "département",
+    "populace",
+    "populacja",
+    "populacija",
+    "población",
+    "popolazione",
+    "população",
+    "skupina",
+    "grupa",
+    "grupo",
+    "groupe",
+    "gruppo",
+    "meute",
+    "troupeau",
+    "rebaño",
+    "branco",
+    "místo",
+    "mesto",
+    "miesto",
+    "miejsce",
+    "kraj",
+    "okres",
+    "hely",
+    "vidék",
+    "vieta",
+    "yer",
+    "kommun",
+    "kommune",
+    "län",
+    "plaats",
+    "gebied",
+    "sted",
+    "plats",
+    "paikka",
+    "kunta",
+    "koht",
+    "piirkond",
+    "район",
+    "област",
+    "τοποθεσία",
+    "περιοχή",
+    "expozice",
+    "expozícia",
+    "ekspozycja",
+    "esposizione",
+    "exposición",
+    "versant",
+    "vertiente",
+    "地点",
+    "地區",
+    "地区",
+    "区域",
 ];
 
 /// Metres.
@@ -726,7 +808,7 @@ pub const LENGTHS: [&str; 72] = [
 ];
 
 /// Degrees.
-pub const DEGREES: [&str; 67] = [
+pub const DEGREES: [&str; 70] = [
     "deg",
     "degs",
     "degree",
@@ -794,6 +876,9 @@ pub const DEGREES: [&str; 67] = [
     "度数",
     "度",
     "grad",
+    "gradus",
+    "stopinjah",
+    "stopinj",
 ];
 
 /// Short names of angles that stand right behind those of axes, as in `lonrad`.
@@ -894,7 +979,7 @@ pub const NUMBERED_SYSTEMS: [&str; 15] = [
 ];
 
 /// Systems and axes, and what was done to coordinates: no unit other than metres and degrees.
-pub const SYSTEMS_AND_AXES: [&str; 145] = [
+pub const SYSTEMS_AND_AXES: [&str; 149] = [
     "decimal",
     "dec",
     "wgs",
@@ -1040,6 +1125,10 @@ pub const SYSTEMS_AND_AXES: [&str; 145] = [
     "clean",
     "new",
     "old",
+    "amg",
+    "osgm",
+    "jprcs",
+    "webmercator",
 ];
 
 /// What coordinates may be those of.
@@ -1679,7 +1768,7 @@ pub const MINUTES_OF_AXES: [&str; 17] = [
 ];
 
 /// Hours.
-pub const HOURS: [&str; 37] = [
+pub const HOURS: [&str; 39] = [
     "hour",
     "hours",
     "hora",
@@ -1717,10 +1806,12 @@ pub const HOURS: [&str; 37] = [
     "timmar",
     "小时",
     "小時",
+    "hodine",
+    "sata",
 ];
 
 /// The time.
-pub const TIMES: [&str; 71] = [
+pub const TIMES: [&str; 78] = [
     "time",
     "times",
     "timestamp",
@@ -1792,10 +1883,17 @@ pub const TIMES: [&str; 71] = [
     "horaires",
     "χρόνος",
     "saat",
+    "čase",
+    "času",
+    "tijden",
+    "zeiten",
+    "zeitpunkt",
+    "datumtid",
+    "dátumidő",
 ];
 
 /// The date.
-pub const DATES: [&str; 19] = [
+pub const DATES: [&str; 25] = [
     "date",
     "dates",
     "datum",
@@ -1815,6 +1913,12 @@ pub const DATES: [&str; 19] = [
     "日期",
     "日付",
     "dátuma",
+    "datumszeit",
+    "päivämäärät",
+    "fechas",
+    "datas",
+    "дати",
+    "дату",
 ];
 
 /// Years.
@@ -1849,7 +1953,7 @@ pub const YEARS: [&str; 27] = [
 ];
 
 /// Months.
-pub const MONTHS: [&str; 26] = [
+pub const MONTHS: [&str; 27] = [
     "month",
     "mon",
     "mm",
@@ -1876,6 +1980,7 @@ pub const MONTHS: [&str; 26] = [
     "μήνας",
     "月",
     "月份",
+    "ay",
 ];
 
 /// Days.

@@ -309,15 +309,21 @@ pub fn is_word(text: &[u8], words: &[&str]) -> bool {
     is_one_of(text.trim_ascii(), words)
 }
 
-// Whether a word has one of two signs or more within it, as those of China and Japan stand without blanks.
+// The least bytes of two signs of China or Japan.
+const TWO_SIGNS: usize = 6;
+
+// Whether a word has another within it that is of two signs or more, as those of China and Japan stand without blanks.
 fn has_signs(word: &[u8], own: &[u8]) -> bool {
-    let are_signs = own.first().is_some_and(|byte| 0xE3 <= *byte) && own.len() >= 6;
+    if own.len() < TWO_SIGNS {
+        return false;
+    }
+    let are_signs = own.first().is_some_and(|byte| 0xE3 <= *byte);
     are_signs && word.windows(own.len()).any(|bytes| bytes == own)
 }
 
 // Whether one of these is a word of a title, or signs within it.
 fn is_within(word: &[u8], words: &[&str]) -> bool {
-    let has_more = word.len() > 6 && !word.is_ascii();
+    let has_more = word.len() > TWO_SIGNS && !word.is_ascii();
     is_one_of(word, words) || has_more && words.iter().any(|own| has_signs(word, own.as_bytes()))
 }
 

@@ -165,7 +165,7 @@ REFUSED = [
            ("CRS (code)", "EPSG:32633", "EPSG:32634"), ("fuseau.utm", "031", "032"))),
     *((f"offsets of times under {title}", [], f"id,time,x,y,{title}\na,2024-05-01 01:00,1000,2000,{cell}\na,2024-05-01 02:00,1030,2040,{cell}\n".encode(), None,
        f"column 5 '{title}' says of which zone times are") for title, cell in (
-           ("UTC offset (h)", "2"), ("UTC_offset_h", "-3"), ("utc_offset_hours", "+5.5"), ("GMT offset (h)", "+02:00"), ("TZ (h)", "2"), ("tijdzone", "+02:00"), ("strefa czasowa", "+2"), ("časové pásmo", "+02:00"), ("časovna cona", "2"), ("vremenska zona", "CET"), ("часовой пояс", "+3"), ("aikavyöhyke", "+2"),
+           ("UTC offset (h)", "2"), ("UTC_offset_h", "-3"), ("utc_offset_hours", "+5.5"), ("GMT offset (h)", "+02:00"), ("TZ (h)", "2"), ("tijdzone", "+02:00"), ("strefa czasowa", "+2"), ("Časové pásmo", "SELČ"), ("časové pásmo", "+02:00"), ("časovna cona", "2"), ("vremenska zona", "CET"), ("часовой пояс", "+3"), ("aikavyöhyke", "+2"),
            ("tidszon", "+1"), ("tidssone", "+1"), ("tidszone", "+1"), ("időzóna", "CET"), ("saat dilimi", "+3"), ("fuso orario", "CET"), ("huso horario", "-5"), ("fuseau horaire", "+1"), ("time offset", "2"), ("UTC.offset..h.", "2.0"),
            ("utcOffset", "2"), ("utc_offset_min", "120"), ("offset to UTC (s)", "7200"), ("tz_name", "Europe/Vienna"), ("time.zone.code", "CET"), ("GMT", "+2"),
            ("fuso orario", "UTC+1"), ("UTC diff", "+0200"))),

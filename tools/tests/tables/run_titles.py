@@ -354,7 +354,7 @@ NO_AXES = [
     ("lon", "lon_lat", "lat_lon"), ("lon", "x", "y"), ("lon", "long (N/S: lat)", "lat (E/W: lon)"), ("easting", "y", "x"), ("easting", "X", "Y"), ("easting", "Y (PL-2000)", "X (PL-2000)"),
     ("easting", "latlong_x", "latlong_y"), ("easting", "x_utm33n", "y_utm33n"), ("easting", "x UTM 33 North", "y UTM 33 North"), ("easting", "E_north_grid", "N_east_grid"),
     ("lon", "lateral_x", "longest_y"), ("easting", "Rechtswert", "Hochwert"), ("easting", "E", "N"), ("easting", "Ost", "Nord"),
-    ("easting", "UTM_E", "UTM_N"), ("easting", "x_utm_n", "y_utm_e"), ("lon", "经度", "纬度"), ("lon", "Délka", "Šířka"), ("easting", "E_UTM33N", "N_UTM33N"),
+    ("easting", "UTM_E", "UTM_N"), ("easting", "oest", "nord"), ("easting", "x_utm_n", "y_utm_e"), ("lon", "经度", "纬度"), ("lon", "Délka", "Šířka"), ("easting", "E_UTM33N", "N_UTM33N"),
 ]
 # Titles of coordinates in metres, and in degrees, that say a multiple or a part of their unit, and how.
 MULTIPLES = [
