@@ -24,10 +24,10 @@ ghost use Rattle.split_reading.specs.Words.{texts};
 ghost use Rattle.split_refusal.specs.Refused.{IsOfNoFix};
 ghost use Rattle.split_said.specs.Order.{animals_in_order};
 
+use crate::coarse::tell_coarse;
 use crate::missing::{tell_other_points, tell_unmet};
 use crate::passed::refuse_passed_over;
 use crate::placed::{choice_of, grid_of, moved_by, place};
-use crate::coarse::tell_coarse;
 use crate::predeployment::tell_predeployment;
 use crate::read::{read, refuse_maker, refuse_other_animals, shown};
 use crate::steps::{counts_by, fates_by, fixes_by, leave_out_by, names_by, records_by, tracks_by};

@@ -55,7 +55,9 @@ fn metres_of(row: &Row) -> Option<(i64, i64)> {
 
 // How many rows have a fix.
 fn count_fixes(rows: &[Row]) -> usize {
-    rows.iter().filter(|row| matches!(row.told, Told::Fix(_))).count()
+    rows.iter()
+        .filter(|row| matches!(row.told, Told::Fix(_)))
+        .count()
 }
 
 // What is asked of degrees that are all round.

@@ -33,8 +33,7 @@ fn is_behind_noon(clock: &Clock, second: u64) -> bool {
 fn is_odd(clock: &Clock, row: &Row, flag: Flag) -> bool {
     match row.told {
         Told::Fix(fix) => {
-            flag == Flag::Missing
-                || is_behind_noon(clock, fix.moment.second) != (flag == Flag::Set)
+            flag == Flag::Missing || is_behind_noon(clock, fix.moment.second) != (flag == Flag::Set)
         }
         Told::LeftOut(_) => false,
     }

@@ -414,7 +414,14 @@ pub(crate) fn refuse_passed_over(
         .iter()
         .any(|column| is_of_places(title_at(export, *column)));
     let rows = &export.ledger.rows;
-    let Ok(texts) = look_at_unread(alloc, &export.text, &columns, export.columns.degrees, have_places, rows) else {
+    let Ok(texts) = look_at_unread(
+        alloc,
+        &export.text,
+        &columns,
+        export.columns.degrees,
+        have_places,
+        rows,
+    ) else {
         return Err(Refusal::out_of_memory(alloc));
     };
     let unread = Unread {

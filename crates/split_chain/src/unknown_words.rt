@@ -56,7 +56,14 @@ fn tell_pair(
         return Ok(());
     };
     tell(alloc, said, export, pair.first, Subject::Coordinates, first)?;
-    tell(alloc, said, export, pair.second, Subject::Coordinates, second)
+    tell(
+        alloc,
+        said,
+        export,
+        pair.second,
+        Subject::Coordinates,
+        second,
+    )
 }
 
 // Whether a row has a fix whose time has no offset.
@@ -92,8 +99,22 @@ fn tell_all(
 ) -> Result<(), OutOfMemory> {
     let columns = &export.columns;
     tell_times(alloc, said, wish, export)?;
-    tell_pair(alloc, said, export, columns.metres, AS_EASTINGS, AS_NORTHINGS)?;
-    tell_pair(alloc, said, export, columns.degrees, AS_LONGITUDES, AS_LATITUDES)
+    tell_pair(
+        alloc,
+        said,
+        export,
+        columns.metres,
+        AS_EASTINGS,
+        AS_NORTHINGS,
+    )?;
+    tell_pair(
+        alloc,
+        said,
+        export,
+        columns.degrees,
+        AS_LONGITUDES,
+        AS_LATITUDES,
+    )
 }
 
 /// Says how columns of times and coordinates are read whose titles have words that are not known.

@@ -1,7 +1,7 @@
 // The sides of the Earth that texts of columns that are not read say.
 
 use split_titles::dictionary::{
-    EASTS, HEMISPHERES as BEHIND, LATITUDES, LONGITUDES, NORTHS, NO_SIDES,
+    EASTS, HEMISPHERES as BEHIND, LATITUDES, LONGITUDES, NO_SIDES, NORTHS,
     PLACES_AND_GROUPS as PLACES, SIDE_TITLES, SOUTHS, WESTS,
 };
 use split_titles::has_word;

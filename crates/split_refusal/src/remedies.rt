@@ -84,7 +84,10 @@ fn words_of_number(cell: &[u8]) -> Option<&'static str> {
 // A text without the letter of a side, or the sign of degrees, at its end.
 fn without_side(cell: &[u8]) -> &[u8] {
     match cell {
-        [start @ .., b'N' | b'S' | b'E' | b'W' | b'O' | b'n' | b's' | b'e' | b'w' | b'o'] => start,
+        [
+            start @ ..,
+            b'N' | b'S' | b'E' | b'W' | b'O' | b'n' | b's' | b'e' | b'w' | b'o',
+        ] => start,
         [start @ .., 0xC2, 0xB0] => start,
         _ => cell,
     }

@@ -85,7 +85,10 @@ fn are_blanks(name: &[u8]) -> bool {
 fn is_missing(name: &[u8]) -> bool {
     let own = before_signs(behind_signs(name));
     let is_of_database = name == OF_DATABASES;
-    own.is_empty() || is_of_database || are_blanks(name) || MISSING.iter().any(|word| own.eq_ignore_ascii_case(word))
+    own.is_empty()
+        || is_of_database
+        || are_blanks(name)
+        || MISSING.iter().any(|word| own.eq_ignore_ascii_case(word))
 }
 
 // Says a question for each name that looks as if there were no animal, of animals that have so many records.

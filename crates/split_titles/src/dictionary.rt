@@ -1437,8 +1437,22 @@ pub const SMALL_AFTERNOONS: [&str; 1] = ["em"];
 
 /// Titles of letters for sides, beside words for axes and sides.
 pub const SIDE_TITLES: [&str; 16] = [
-    "ns", "ew", "we", "eo", "wo", "ow", "n", "s", "e", "w", "o", "side", "sign", "dir",
-    "direction", "ref",
+    "ns",
+    "ew",
+    "we",
+    "eo",
+    "wo",
+    "ow",
+    "n",
+    "s",
+    "e",
+    "w",
+    "o",
+    "side",
+    "sign",
+    "dir",
+    "direction",
+    "ref",
 ];
 
 /// What such a title says beside what is no side of the Earth.

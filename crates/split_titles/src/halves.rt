@@ -1,8 +1,8 @@
 // Halves of the day, as they stand behind clocks of 12 hours, or in a column of their own.
 
 use crate::dictionary::{
-    AFTERNOONS, AFTERNOONS_BEHIND, FORENOONS, FORENOONS_BEHIND, HALF_TITLES, HALVES, SMALL_AFTERNOONS,
-    SMALL_FORENOONS,
+    AFTERNOONS, AFTERNOONS_BEHIND, FORENOONS, FORENOONS_BEHIND, HALF_TITLES, HALVES,
+    SMALL_AFTERNOONS, SMALL_FORENOONS,
 };
 use crate::words::{behind, has_word, is_one_of, is_one_word};
 

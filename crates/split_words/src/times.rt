@@ -91,7 +91,8 @@ fn doubt_of(form: &[u8], zone: Option<&[u8]>) -> Option<ClockDoubt> {
 
 // Whether a form has a half of the day as a text that stands for itself.
 fn has_half(form: &[u8]) -> bool {
-    form.split(|byte| *byte == b'%').any(|part| is_half_of_day(behind_sign(part)))
+    form.split(|byte| *byte == b'%')
+        .any(|part| is_half_of_day(behind_sign(part)))
 }
 
 // Why a form is refused that is one of days: it says another zone than times are read in, or none is named, or a half of the day
