@@ -20,8 +20,8 @@ OURS = {
     "reserve_name": "boundary_name label over_name", "share": "proportion", "title": "main", "tz": "timezone time_zone"}
 WANTED = {  # what arguments are that have no default
     "animal": "the name of an animal is wanted", "folder": "the name of a folder is wanted", "path": "the name of a file is wanted",
-    "ranges": "ranges are wanted, as home_range makes them", "reserve": "a geometry is wanted", "table": "a table of these ranges is wanted",
-    "x": "fixes, a data frame or a file are wanted"}
+    "ranges": "ranges are wanted, as home_range makes them", "report": "home_range and read_report make ranges", "reserve": "a geometry is wanted", "table": "a table of these ranges is wanted",
+    "tracks": "home_range and read_report make ranges", "x": "fixes, a data frame or a file are wanted"}
 OF_AXES = {"title": "set_title", "xlim": "set_xlim", "ylim": "set_ylim", "xlabel": "set_xlabel", "ylabel": "set_ylabel"}
 
 

@@ -6,7 +6,7 @@ import sys
 import time
 from typing import Any, Callable
 
-from .errors import refuse
+from .errors import calling, refuse, shown
 
 QUIET = 1.0  # seconds for which nothing is said
 
@@ -52,7 +52,11 @@ class Log:
 def progress_of(wish: Any) -> Callable[[int, int], object] | None:
     """What is called as runs are done: what was given, a bar on a terminal, or nothing."""
     if callable(wish):
-        return wish  # type: ignore[no-any-return]
+        def called(done: int, of: int) -> None:
+            with calling("progress: the function"):
+                wish(done, of)
+
+        return called
     if wish is not None and not isinstance(wish, bool):
-        refuse(f"progress={wish!r} is neither True nor False, nor a function of two numbers")
+        refuse(f"progress={shown(wish)} is neither True nor False, nor a function of two numbers")
     return Bar() if wish or wish is None and sys.stderr.isatty() else None

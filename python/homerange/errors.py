@@ -6,10 +6,12 @@ import os
 import re
 from contextlib import contextmanager
 from pathlib import Path
-from typing import Iterator, NoReturn
+from typing import Iterable, Iterator, NoReturn
 
 LONGEST = 500  # signs of what is said of an argument
 BYTES = (bytes, bytearray, memoryview)  # neither texts nor numbers, though Python makes either of them
+ADDRESS = re.compile("[A-Za-z][A-Za-z0-9+.-]+:/+[^/]")  # of something that is not on this machine
+LONGEST_SHOWN = 100  # signs of a value that is shown as Python writes it
 UNPRINTABLE = re.compile("[\x00-\x1f\x7f-\x9f\u2028\u2029]")
 HALF = re.compile("[\ud800-\udfff]")  # halves of signs, and bytes that are not of UTF-8
 
@@ -102,11 +104,34 @@ def refuse(text: str, kind: str = "option", record: int | None = None) -> NoRetu
     raise FrameError(line if len(line) <= LONGEST else f"{line[:LONGEST // 2]} .. {line[-LONGEST // 2:]}", kind, record)
 
 
-def truth_of(value: object, what: str) -> bool:
+def shown(value: object) -> str:
+    """A value that was given, as a refusal has it: texts and what Python writes in one short line as they are, all else by its class."""
+    own = repr(value)
+    return own if isinstance(value, str) or len(own) <= LONGEST_SHOWN and "\n" not in own else type(value).__name__
+
+
+def is_several(values: object) -> bool:
+    """Whether a value has several, and is no text."""
+    return isinstance(values, Iterable) and not isinstance(values, (str, *BYTES)) and getattr(values, "ndim", 1) > 0
+
+
+def truth_of(value: object, what: str, helps: str = "") -> bool:
     """A flag, of Python or of numpy."""
     if not isinstance(value, bool) and type(value).__name__ not in ("bool_", "bool"):
-        refuse(f"{what}={value!r} is neither True nor False")
+        refuse(f"{what}={shown(value)} is neither True nor False{helps}")
     return bool(value)
+
+
+@contextmanager
+def calling(what: str, helps: str = "") -> Iterator[None]:
+    """A fault of a function that was given as an argument is refused by the name of that, and what the package itself refuses there as it is."""
+    try:
+        yield
+    except (HomeRangeError, Warning):
+        raise
+    except Exception as fault:
+        line = one_line(f"{what} has failed: {type(fault).__name__}: {fault}{helps}")
+        raise FrameError(line) from fault
 
 
 def check_file(path: Path) -> Path:
@@ -163,5 +188,7 @@ def is_path(text: str) -> bool:
 def path_of(value: object, what: str) -> Path:
     """A path that was given; what is none is refused."""
     if not isinstance(value, (str, os.PathLike)) or not isinstance(text := os.fspath(value), str) or not is_path(text):
-        refuse(f"{what}={value!r} is no path")
-    return Path(text) if text else refuse(f"{what}={value!r} is no path: it is empty")
+        refuse(f"{what}={shown(value)} is no path")
+    if ADDRESS.match(text):
+        refuse(f"{what}={shown(value)} is an address, and a path is wanted: load the file down before")
+    return Path(text) if text else refuse(f"{what}={shown(value)} is no path: it is empty")

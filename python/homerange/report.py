@@ -26,6 +26,8 @@ LAST = 30  # bytes at the end of a report, with its last line
 PIECE = 4_096  # rows that are read together
 NAME = re.compile('[^\x00-\x1f\x7f,"]{1,32}')
 END = re.compile("end,[0-9]+\\n")
+BEGIN = re.compile("(\xef\xbb\xbf|[\xff\xfe]+)?\0?[ua]\0|(unit,d?m\r?\n)?animal,[^\n]*,fixes,[0-9]")  # of a report, also in UTF-16
+BEGINNING = 2 ** 12  # bytes of it that are looked at
 LEVEL = re.compile("percent,([^,]*),([1-9][0-9]{0,2}),.*\n")
 
 
@@ -293,13 +295,15 @@ def parse(lines: Lines, reader: Reader | None = None) -> Report:
     return Report(unit, tables, overlaps_of(lines, {name: table.fixes for name, table in tables.items()}))
 
 
-def check_end(text: str, where: str) -> None:
-    """Refuses a report that does not end as one, of which this is the end."""
+def check_end(text: str, where: str, begin: str = "") -> None:
+    """Refuses a report that does not end as one, of which this is the end, and this the beginning where it is known."""
     if END.fullmatch(text, text.rfind("\n", 0, -1) + 1) is None:
         what = "is cut off: its last line is not 'end,' with the number of animals"
         if text.endswith("\r\n"):
             what = "has lines that end in CR and LF, as Windows and some mails make them: take the file as the program wrote it"
-        if "\0" in text:
+        if begin and not BEGIN.match(begin):
+            what = "is no report: it does not begin as one, with a line 'animal,NAME,fixes,NUMBER'"
+        elif "\0" in text:
             what = "is no text in UTF-8: it has a byte 0, as files in UTF-16 have: write it in UTF-8"
         raise ReportError(f"{one_line(where)} {what}")
 
@@ -314,7 +318,9 @@ def read(path: str | os.PathLike[str], reader: Reader | None = None) -> Report:
     """The report in a file."""
     with open(path, "rb") as end:
         end.seek(max(os.path.getsize(path) - LAST, 0))
-        check_end(end.read().decode("latin-1"), str(path))
+        last = end.read().decode("latin-1")
+        end.seek(0)
+        check_end(last, str(path), end.read(BEGINNING).decode("latin-1"))
     with open(path, **TEXT) as file:
         return parse(Lines(file, str(path)), reader)
 

@@ -2,8 +2,10 @@
 import datetime
 import decimal
 import pathlib
+import shutil
+import subprocess
 import warnings
-from inspect import signature
+from inspect import Parameter, isfunction, signature
 
 import numpy
 import pandas
@@ -11,9 +13,12 @@ import pytest
 from exact import cloud
 from frames import frame_of
 
-from homerange import FileError, FrameError, HomeRangeError, HomeRangeNote, HomeRanges, home_range, plot_curve, plot_ranges, read_fixes
+import homerange
+from homerange import FileError, Fixes, FrameError, HomeRangeError, HomeRangeNote, HomeRanges, ReportError, home_range, plot_curve, plot_ranges, read_fixes
 from homerange import read_report, share_inside, write_layers, write_page
+from homerange.program import find_program
 from homerange.read.words import ELSEWHERE, FLAGS, FORMS, OURS
+from homerange.write.output import ARGUMENTS
 
 EXAMPLES = pathlib.Path(__file__).parents[2] / "examples"
 FRAME = frame_of(a=cloud(1, 12), b=cloud(2, 12))
@@ -22,11 +27,28 @@ ODD = [
     {}, {"a": 1}, None, pandas.NaT, pandas.NA, numpy.datetime64("2024-03-01"), datetime.date(2024, 3, 1),
     datetime.datetime(2024, 3, 1, 12), pandas.Timestamp("2024-03-01"), pandas.Period("2024-03"), FRAME["animal"], FRAME,
     FRAME.index, object(), iter([1]), numpy.array([1, 2]), numpy.array([[1]]), decimal.Decimal(5), 1j, "a" * 200, "9" * 5000,
-    "a\nb", ["animal"], {50, 95}, range(3)]
-OF_RANGES = "levels by program jobs progress".split()
-OF_TABLES = """
-    unit zone crs sensor skip_unnamed animal name time time_format tz lon lat easting northing na argos argos_class dop max_dop fix
-    fix_type since until max_speed every from_ skip_lines header encoding nonsense use months hours to every_hours mark""".split()
+    "a\nb", ["animal"], {50, 95}, range(3), numpy.array(1), Ellipsis, int, len, " ", "\ud800", "a\0b"]
+WRONG = (complex, bytes, type(Ellipsis), dict)  # what no argument is, but for one
+FURTHER = {  # what stands for the further arguments of a function
+    "home_range": [*FORMS, *FLAGS, "nonsense"], "read_fixes": [*FORMS, *FLAGS, "nonsense"], "HomeRanges.evidence": [*ARGUMENTS, "nonsense"]}
+NAMED = {  # what a refusal says of some arguments in place of their names
+    "x": "neither a path nor a data frame", "ranges": "has no ranges", "animal": "no animal", "colours": "no colour"}
+
+
+def functions():
+    """All public functions, and those of what they answer, by their names."""
+    found = {name: getattr(homerange, name) for name in homerange.__all__}
+    for kind in (HomeRanges, Fixes):
+        found.update({f"{kind.__name__}.{name}": own for name, own in vars(kind).items() if not name.startswith("_")})
+    return {name: own for name, own in found.items() if isfunction(own)}
+
+
+def arguments():
+    """Each argument of each of these."""
+    for name, function in functions().items():
+        kinds = {own: part.kind for own, part in signature(function).parameters.items() if own != "self"}
+        further = FURTHER[name] if Parameter.VAR_KEYWORD in kinds.values() else []
+        yield from ((name, own) for own in [*(own for own, kind in kinds.items() if kind is not Parameter.VAR_KEYWORD), *further])
 
 
 @pytest.fixture(scope="module")
@@ -36,97 +58,135 @@ def ranges():
 
 @pytest.fixture(scope="module")
 def report(tmp_path_factory):
-    from homerange.program import find_program
-    import subprocess
-
     path = tmp_path_factory.mktemp("report") / "report.txt"
     path.write_bytes(subprocess.run([find_program(), EXAMPLES / "fox.csv"], capture_output=True, check=True).stdout)
     return path
 
 
-def is_taken_or_refused(call):
-    """Whether a call holds, or is refused as it should be. A path may be one of no file."""
-    for value in ODD:
-        try:
-            call(value)
-        except (HomeRangeError, HomeRangeNote) as fault:
-            assert "\n" not in str(fault) and len(str(fault)) < 6000, value
-
-
-@pytest.mark.parametrize("name", OF_RANGES)
-def test_arguments_of_home_range(name):
-    is_taken_or_refused(lambda value: home_range(FRAME, **{name: value}))
-
-
-def test_what_is_no_frame():
-    is_taken_or_refused(home_range)
-
-
-@pytest.mark.parametrize("name", ["corners", "polygons", "hectares", "fixes", "overlap"])
-def test_arguments_of_answers(ranges, name):
-    is_taken_or_refused(getattr(ranges, name))
-
-
-def test_levels_of_answers(ranges):
-    is_taken_or_refused(lambda value: ranges.hectares("a", value))
-    boundary = ranges.polygons().geometry.iloc[0]
-    is_taken_or_refused(lambda value: share_inside(ranges, boundary, value))
-    is_taken_or_refused(lambda value: share_inside(ranges, value))
+@pytest.fixture(scope="module")
+def fixes():
+    return read_fixes(FRAME, zone="33N")
 
 
 @pytest.mark.filterwarnings("ignore:More than 20 figures")
-def test_arguments_of_pictures(ranges):
+@pytest.mark.parametrize("name, argument", arguments())
+def test_an_argument_is_taken_or_refused_in_one_line_by_its_name(splitter, ranges, report, fixes, tmp_path, monkeypatch, name, argument):
+    """An argument without a good value, and further ones of a function that nobody knows, are faults of this test."""
+    pytest.importorskip("geopandas")
     pyplot = pytest.importorskip("matplotlib.pyplot")
-    is_taken_or_refused(lambda value: plot_ranges(ranges, level=value))
-    for name in ("ax", "animals", "by", "share", "facets", "colours"):
-        is_taken_or_refused(lambda value: plot_curve(ranges, **{name: value}))
-        pyplot.close("all")
-    for name in ("ax", "animals", "fixes", "over", "over_name", "facets", "colours"):
-        is_taken_or_refused(lambda value: plot_ranges(ranges, **{name: value}))
-        pyplot.close("all")
-    for call in (plot_curve, plot_ranges, lambda value: share_inside(value, ranges), lambda value: write_page(value, "page.html")):
-        is_taken_or_refused(call)
-
-
-@pytest.mark.parametrize("name", OF_TABLES)
-def test_arguments_of_reading(splitter, name):
-    is_taken_or_refused(lambda value: read_fixes(EXAMPLES / "export.csv", **{name: value}))
-    is_taken_or_refused(lambda value: home_range(FRAME, **{name: value}))
-    fixes, is_option = read_fixes(FRAME), name in {*FORMS, *FLAGS}
-    said = f"{name} says how a table is read, and these fixes were read already" if is_option else f"there is no option {name}"
-    for value in (ODD[0], "x"):
-        with pytest.raises(HomeRangeError, match=said):
-            home_range(fixes, **{name: value})
-
-
-@pytest.mark.parametrize("name", ["files", "crs", "tz", "shift", "program", "record"])
-def test_arguments_of_read_report(report, name):
-    is_taken_or_refused(lambda value: read_report(report, **{name: value}))
-
-
-@pytest.mark.parametrize("name", ["title", "study", "species", "by", "reserve", "reserve_name", "tz", "made"])
-def test_arguments_of_write_page(ranges, tmp_path, name):
-    is_taken_or_refused(lambda value: write_page(ranges, tmp_path / "page.html", **{name: value}))
-
-
-@pytest.mark.parametrize("name", ["title", "tz", "made", "nonsense"])
-def test_arguments_of_evidence(ranges, tmp_path, name):
-    (tmp_path / "made").mkdir()
-    is_taken_or_refused(lambda value: ranges.evidence(tmp_path / "made", **{name: value}))
-    with pytest.raises(HomeRangeError, match="there is no such folder"):
-        ranges.evidence(tmp_path / "none" / "made")
-
-
-def test_paths(splitter, ranges, tmp_path, monkeypatch):
+    function = functions()[name]
+    path = {"read_report": report, "write_page": tmp_path / "page.html", "write_layers": tmp_path / "layers.gpkg"}.get(name)
+    good = {"x": FRAME, "ranges": ranges, "path": path, "reserve": ranges.polygons(), "animal": "a", "folder": tmp_path / "new",
+            "table": ranges.summary()}
+    own = [{"HomeRanges": ranges, "Fixes": fixes}[name.partition(".")[0]]] if "." in name else []
+    needed = {key: good[key] for key, part in signature(function).parameters.items()
+              if key != "self" and part.default is part.empty and part.kind is not part.VAR_KEYWORD}
     monkeypatch.chdir(tmp_path)
+    for value in [*ODD, ranges.polygons().geometry, fixes, ranges]:
+        shutil.rmtree(tmp_path / "new", ignore_errors=True)
+        try:
+            function(*own, **{**needed, argument: value})
+        except (HomeRangeError, HomeRangeNote) as fault:
+            said = str(fault)
+            assert said and "\n" not in said and len(said) < 6000, value
+            assert not isinstance(value, WRONG) or argument in said or NAMED.get(argument, "\n") in said, (value, said)
+        pyplot.close("all")
+
+
+def test_options_of_reading_are_none_of_fixes_that_were_read(fixes):
+    for name in (*FORMS, *FLAGS):
+        for value in (95, "x"):
+            with pytest.raises(HomeRangeError, match=f"^{name} says how a table is read, and these fixes were read already"):
+                home_range(fixes, **{name: value})
+
+
+def test_paths(ranges, report, tmp_path):
     for path, said in ((tmp_path / "none" / "a", "there is no such folder"), (tmp_path, "is a folder")):
         for write in (write_page, write_layers):
             with pytest.raises(FileError, match=said):
                 write(ranges, path)
-    is_taken_or_refused(read_fixes)
-    is_taken_or_refused(home_range)
-    is_taken_or_refused(read_report)
-    is_taken_or_refused(lambda value: write_page(ranges, value))
+    with pytest.raises(HomeRangeError, match="there is no such folder"):
+        ranges.evidence(tmp_path / "none" / "made")
+    address = "https://example.org/report.txt"
+    for name, call in {"x": read_fixes, "path": read_report, "record": lambda path: read_report(report, record=path),
+                       "files": lambda path: read_report(report, files=[path])}.items():
+        with pytest.raises(FrameError, match=f"^{name}='{address}' is an address, and a path is wanted: load the file down before$"):
+            call(address)
+
+
+def test_what_is_no_report_is_refused_as_such(ranges, report, tmp_path):
+    other = tmp_path / "other"
+    for data in (b"SQLite format 3\0" + bytes(100), b"animal,second,easting,northing\nfox,1,2,3\n", b"\x89PNG\r\n\x1a\n"):
+        other.write_bytes(data)
+        with pytest.raises(ReportError, match="other is no report: it does not begin as one, with a line 'animal,NAME,fixes,NUMBER'$"):
+            read_report(other)
+    other.write_bytes(b"SQLite format 3\0\xd8\xff")
+    with pytest.raises(FrameError, match="other has no fix with animal, second, easting and northing$"):
+        read_report(report, files=[other])
+    with pytest.raises(FrameError, match="^files=DataFrame are not several paths"):
+        read_report(report, files=FRAME)
+
+
+def test_groups_that_are_no_value_for_each_fix_are_refused_with_what_helps():
+    table, none = "by is a table, and a value for each row is wanted: take one column, or join several", "is none of 'year', 'month', 'season', no column"
+    for by, said in ((FRAME, table), (FRAME[["animal"]], table), (FRAME.groupby("animal"), table),
+                     ({"a": "x", "b": "y"}, f"by={{'a': 'x', 'b': 'y'}} {none}"), (dict.fromkeys(FRAME.index), f"by=dict {none}")):
+        with pytest.raises(FrameError) as caught:
+            home_range(FRAME, by=by)
+        assert str(caught.value).startswith(said)
+    with pytest.raises(FrameError, match=r": a column has it for each fix, as by fixes\['animal'\].map\(by\)$"):
+        home_range(FRAME, by={"a": "x"})
+    with pytest.raises(FrameError, match=": a set has no order, and a list has one$"):
+        home_range(FRAME, by={"a"})
+    with pytest.raises(FrameError, match="^by: the function of the fixes has failed: KeyError: 'nothing': a title, or a period such as 'month', stands in quotes$"):
+        home_range(FRAME, by=lambda fixes: fixes["nothing"])
+    with pytest.raises(FrameError, match="^progress: the function has failed: ZeroDivisionError: "):
+        home_range(FRAME, progress=lambda done, of: 1 // 0)
+    points = pytest.importorskip("geopandas").GeoSeries.from_xy(FRAME["easting"], FRAME["northing"])
+    for call in (home_range, read_fixes):
+        with pytest.raises(FrameError, match=r": make it one, as by geopandas.GeoDataFrame\({'animal': .., 'time': ..}, geometry=x\)$"):
+            call(points)
+    with pytest.raises(FrameError, match="^row 0: by has a group of the class Point, which is no text: make it one, as by .astype"):
+        home_range(FRAME, by=points)
+
+
+def test_a_title_that_means_something_else_is_no_group_and_another_title_is():
+    table = FRAME.assign(zone=["core", "buffer"] * 12)
+    for frame in (table, read_fixes(FRAME).assign(zone=["core", "buffer"] * 12)):
+        with pytest.raises(FrameError, match=r"; of groups give it another title, as by frame.rename\(columns={'zone': 'group'}\), by='group'$"):
+            home_range(frame, by="zone")
+    with pytest.raises(FrameError, match="rename or remove it$"):
+        read_fixes(table)
+    assert len(home_range(table.rename(columns={"zone": "group"}), by="group").animals) == 4
+
+
+def test_a_level_in_place_of_a_name_and_other_arguments_of_answers(ranges):
+    with pytest.raises(FrameError, match="^share=95 is neither True nor False: a level is named, as by level=95$"):
+        ranges.overlap(95)
+    groups = home_range(read_fixes(FRAME), by="month")
+    for table, said in ((5, "^table=int is no table"), (FRAME[["easting"]], "^table=DataFrame is no table"), (FRAME, "^there is no animal 'a': there are 'a 2024-03'")):
+        with pytest.raises(FrameError, match=said):
+            groups.by_group(table)
+    with pytest.raises(FrameError, match="^report=1 is no report: home_range and read_report make ranges$"):
+        HomeRanges(1, None)
+
+
+def test_zones_of_python_are_taken_by_their_names():
+    utc, summer = datetime.timezone.utc, datetime.timezone(datetime.timedelta(hours=2))
+    assert read_fixes(FRAME, tz=utc).reading.tz == "UTC"
+    with pytest.raises(FrameError, match=r"^tz='UTC\+02:00' is no time zone such as 'Europe/Ljubljana': the offset \+2 is that of 'Etc/GMT-2'$"):
+        read_fixes(FRAME, tz=summer)
+    dateutil = pytest.importorskip("dateutil.tz")
+    assert read_fixes(FRAME, tz=dateutil.tzutc()).reading.tz == "UTC"
+
+
+@pytest.mark.parametrize("options, said", [
+    ({"since": "x"}, "since: 'x' is no time in UTC, such as"), ({"until": ""}, "until: '' is no time in UTC, such as"),
+    ({"zone": ""}, "zone='' is no zone as 33N"), ({"unit": ""}, "unit:  is neither m nor dm"), ({"tz": ""}, "tz='' is no time zone")])
+def test_an_empty_option_is_refused_by_its_name(options, said):
+    with pytest.raises(FrameError) as caught:
+        read_fixes(FRAME, **options)
+    assert str(caught.value).startswith(said)
 
 
 @pytest.mark.parametrize("value", [b"2", bytearray(b"2"), memoryview(b"2"), numpy.bytes_(b"2")])

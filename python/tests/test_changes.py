@@ -33,7 +33,8 @@ def chosen(fixes):
     return {name: count for name, reason, count in left.values.tolist() if reason == "chosen"}
 
 
-CHANGED = "the fixes are not as they were read: what was left out before is neither in the folder nor on its page"
+CHANGED = ("the fixes are not as they were read: (1 of them was taken away since, and )?what was left out before is neither in the folder nor "
+           "on its page")
 SWAPPED, OTHER = {"a": "b", "b": "a"}, {"a": "c", "b": "d"}
 
 
@@ -154,7 +155,7 @@ def test_what_is_not_known_of_an_animal_stays_so(splitter, tmp_path):
             write_page(ranges, tmp_path / "page.html")
         text = (tmp_path / "page.html").read_text()
         cells = re.findall('data-animal="(.)".*data-field="records">([^<]*)<', text)
-        assert dict(cells) == {"b": "4", name: str(list(fixes["animal"]).count(name))} and f"“{CHANGED}”" in text
+        assert dict(cells) == {"b": "4", name: str(list(fixes["animal"]).count(name))} and re.search(f"“{CHANGED}”", text)
 
 
 def test_of_an_animal_with_another_name_all_is_known_where_nothing_was_left_out(fixes):

@@ -131,7 +131,8 @@ def test_tracks_of_fixes_as_they_were_read_are_those_of_the_program(tmp_path, sp
     assert tracks == by_program(tmp_path, frame, splitter, "--zone", "33N")
 
 
-CHOSEN = "^the fixes are not as they were read: what was left out before is neither in the folder nor on its page$"
+CHOSEN = ("^the fixes are not as they were read: {} taken away since, and what was left out before is neither in the folder nor on its "
+          "page$")
 
 
 def test_evidence_of_fixes_that_were_chosen_and_bound(tmp_path, splitter):
@@ -140,10 +141,11 @@ def test_evidence_of_fixes_that_were_chosen_and_bound(tmp_path, splitter):
         other = read_fixes(frame_of(urchin=[(-1_500_000 + east, north) for east, north in cloud(4, 20)]))
     fixes = read_fixes(frame)
     chosen = fixes[fixes["easting"] > 562_000]
+    gone = CHOSEN.format(f"{len(fixes) - len(chosen)} of them were")
     for number, own in enumerate((chosen, pandas.concat([chosen, other]), chosen.sort_values("time"))):
         folder = tmp_path / f"hand-in{number}"
         found = home_range(own, [50, 100])
-        with pytest.warns(HomeRangeNote, match=CHOSEN):
+        with pytest.warns(HomeRangeNote, match=gone):
             found.evidence(folder)
         lines, _ = lines_of(folder)
         assert lines[0] == "export,fixes.csv" and not kinds(lines, "left")
@@ -153,14 +155,14 @@ def test_evidence_of_fixes_that_were_chosen_and_bound(tmp_path, splitter):
         assert {name: areas[name, 100] for name in ("vixen", "a_b")} == {
             name: found.hectares(name.replace("_", "/")) for name in ("vixen", "a_b")}
     laea = home_range(read_fixes(frame.assign(easting=frame["easting"] + 3_759_000, northing=frame["northing"] - 1_924_000), crs=3035).iloc[1:])
-    with pytest.warns(HomeRangeNote, match=CHOSEN):
+    with pytest.warns(HomeRangeNote, match=CHOSEN.format("1 of them was")):
         laea.evidence(tmp_path / "laea")
     assert "option,crs,EPSG:3035 (ETRS89-extended / LAEA Europe)" in lines_of(tmp_path / "laea")[0]
     assert verify(tmp_path / "laea")[0] == 3
     # Moved as a whole fixes are shifted otherwise, and have the areas that they had.
     with pytest.warns(HomeRangeNote, match="^coordinates are shifted by 7000000 m east and 0 m north$"):
         moved = home_range(chosen.assign(easting=chosen["easting"] - 7_000_000))
-    with pytest.warns(HomeRangeNote, match=CHOSEN):
+    with pytest.warns(HomeRangeNote, match=gone):
         moved.evidence(tmp_path / "moved")
     assert "shift,7000000,0" in lines_of(tmp_path / "moved")[0]
     assert verify(tmp_path / "moved")[0] == 3

@@ -141,7 +141,7 @@ def test_a_collar_is_read_by_its_preset(tmp_path, splitter):
     (5, "a int is neither a path nor a data frame with a row for each fix: make it one, as by pandas.DataFrame", "option"),
     ([1], "a list is neither", "option"), (pandas.DataFrame(), "the data frame has no row of a fix", "empty"),
     (frame_of(), "the data frame has no row", "empty"), (frame_of(a=SQUARE)["easting"], "a Series is neither", "option"),
-    (type("Other", (), {"to_pandas": None})(), "a Other is neither .*: make it one, as by to_pandas", "option"),
+    (type("Other", (), {"to_pandas": None})(), "a Other is neither .*: make it one, as by x.to_pandas", "option"),
 ])
 def test_what_is_no_table_is_refused(table, said, kind):
     for call in (read_fixes, home_range):

@@ -161,6 +161,8 @@ SECONDS = MOMENTS.astype("int64") // 10 ** 9
 
 @pytest.mark.parametrize("counts, what", [
     ([45352.5, 45352.5 + 4805 / 86400, 45353 + 1 / 86400], "which looks like days of Excel: make moments of it"),
+    ([19783.5, 19783.5 + 4805 / 86400, 19784 + 1 / 86400], "which looks like days since 1970: make moments of it"),
+    ([60370.5, 60370.5 + 4805 / 86400, 60371 + 1 / 86400], "which looks like modified Julian days: make moments of it"),
     ([2460371.0, 2460371 + 4805 / 86400, 2460371.5 + 1 / 86400], "which looks like Julian days: make moments of it"),
     ([second * 10 ** 3 for second in SECONDS], "which looks like milliseconds, or a date without signs between: if it is milliseconds since 1970, make moments of it"),
     ([second * 10 ** 6 for second in SECONDS], "which is no second since 1970 (1990 to 2286): if it is microseconds since 1970, make moments of it"),
@@ -173,6 +175,52 @@ def test_times_that_are_counted_otherwise(splitter, counts, what):
         assert said.startswith(begin) and fault == "time"
         exec(said.removeprefix(begin), {"frame": frame, "pandas": pandas})
         assert read_fixes(frame)["time"].tolist() == MOMENTS.tolist()
+
+
+def test_days_since_1970(splitter, tmp_path):
+    for days, said in (([19783, 19784, 19785], "which looks like days since 1970: make moments of it"),
+                       ([12478, 12479, 12480], "which is no second since 1970 (1990 to 2286): if it is days since 1970, make moments of it")):
+        frame = PLACES.assign(time=days)
+        begin = f"row 0: time is '{days[0]}', {said}, as by "
+        text = refusal(frame)[0]
+        assert text.startswith(begin)
+        exec(text.removeprefix(begin), {"frame": frame, "pandas": pandas})
+        assert read_fixes(frame)["time"].tolist() == [pandas.Timestamp(day * 86400, unit="s", tz="UTC") for day in days]
+    path = tmp_path / "days.csv"
+    PLACES.assign(time=[19783, 19784, 19785]).to_csv(path, index=False)
+    assert refusal(path)[0].startswith(f"{path}: record 1: time is '19783', which looks like days since 1970: write a time such as")
+
+
+def test_titles_with_a_comma_are_to_be_renamed(splitter):
+    clocks = PLACES.assign(date="2024-03-01", **{"clock, local": ["01:05", "02:00", "03:00"]})
+    moments = PLACES.assign(**{"date, time": MOMENTS})
+    before = "; rename '{}' before, since a comma or | stands between titles"
+    assert refusal(clocks)[0].endswith(before.format("clock, local"))
+    assert read_fixes(moments)["time"].tolist() == MOMENTS.tolist()
+    unnamed = moments.rename(columns={"animal": "beast"})
+    assert refusal(unnamed)[0].endswith(f"as by animal=.. and time='date, time'{before.format('date, time')}")
+    assert len(read_fixes(unnamed.rename(columns={"date, time": "when"}), animal="beast", time="when")) == 3
+    assert refusal(moments, time="date, time")[0].endswith(": rename columns whose titles have a comma or |")
+
+
+def test_moments_under_the_titles_of_a_maker(splitter):
+    places = pandas.DataFrame({"Device ID": 7, "Latitude": [45.0, 45.1, 45.2], "Longitude": [14.0, 14.1, 14.2]})
+    lotek = places.assign(**{"Date & Time [GMT]": MOMENTS})
+    said = "from_='lotek' has a form for texts, and 'Date & Time [GMT]' has moments: leave from_ out, and name columns, as by animal=.., time="
+    assert refusal(lotek, from_="lotek") == (f"{said}'Date & Time [GMT]'", "option")
+    assert quietly(read_fixes, lotek, animal="Device ID", time="Date & Time [GMT]")["time"].tolist() == MOMENTS.tolist()
+    vectronic = places.rename(columns={"Device ID": "CollarID"}).assign(AnimalID="", UTC_Date=MOMENTS.normalize(), UTC_Time=[time.time() for time in MOMENTS])
+    assert refusal(vectronic, from_="vectronic")[0].endswith(": UTC_Date has moments: make days of it, as by .dt.date")
+    days = vectronic.assign(UTC_Date=vectronic["UTC_Date"].dt.date)
+    assert quietly(read_fixes, days, from_="vectronic")["time"].tolist() == MOMENTS.tolist()
+
+
+@pytest.mark.parametrize("title, zone", [("time (Europe/Vienna)", "Europe/Vienna"), ("time (UTC+2)", "Etc/GMT-2"), ("local time", "Europe/Ljubljana")])
+def test_moments_labelled_utc_get_the_zone_of_their_title(splitter, title, zone):
+    frame = PLACES.assign(**{title: MOMENTS})
+    call = refusal(frame)[0].split("as by ")[1]
+    own = eval(call, {"frame": frame})
+    assert str(own.dt.tz) == zone and own.dt.tz_localize(None).tolist() == MOMENTS.tz_localize(None).tolist()
 
 
 def test_dates_without_signs(splitter):

@@ -245,9 +245,10 @@ def test_what_has_no_animals_is_no_report(tmp_path, text):
 
 def test_what_is_no_text_is_no_report(tmp_path):
     path = tmp_path / "report.txt"
-    path.write_bytes("Jäger".encode("latin-1"))
-    with pytest.raises(ReportError, match="is cut off"):
-        read_report(path)
+    for text, said in (("Jäger", "is no report: it does not begin as one"), ("animal,Jäger,fixes,3", "is cut off")):
+        path.write_bytes(text.encode("latin-1"))
+        with pytest.raises(ReportError, match=said):
+            read_report(path)
 
 
 def test_a_report_whose_lines_end_in_two_signs_is_not_called_cut_off(files, tmp_path):

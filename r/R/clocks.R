@@ -91,8 +91,8 @@ refuse_labelled <- function(frame, title, folder) {
   if (is.null(frame$given$tz) && !title %in% frame$renamed[["from"]]) return(invisible())
   said <- said_of_clock(title, folder, "T00:00:00Z", NULL, "without tz times are those of UTC")
   if (!is.null(said)) {
-    refuse("columns", said, ", and its moments are labelled UTC: if they are, name tz = \"UTC\", and else give them the zone of their ",
-           "clock, as by as.POSIXct(format(x[[\"", title, "\"]]), tz = \"Europe/Ljubljana\")")
+    refuse("columns", said[1], ", and its moments are labelled UTC: if they are, name tz = \"UTC\", and else give them the zone of their ",
+           "clock, as by as.POSIXct(format(x[[\"", title, "\"]]), tz = \"", said[2], "\")")
   }
 }
 
@@ -100,16 +100,18 @@ refuse_labelled <- function(frame, title, folder) {
 refuse_of_session <- function(title, zone, folder) {
   said <- if (zone %in% OlsonNames()) said_of_clock(title, folder, "T00:00:00", paste0("--tz=", zone), paste("tz is", zone))
   if (!is.null(said)) {
-    refuse("columns", said, ", and its moments have no zone, and are by the clock of the session, ", zone, ": give them their own, as by ",
+    refuse("columns", said[1], ", and its moments have no zone, and are by the clock of the session, ", zone, ": give them their own, as by ",
            "as.POSIXct(format(x[[\"", title, "\"]]), tz = \"UTC\"), or rename the column")
   }
 }
 
-# What the program says of the title of a column of times of this form, if that is another clock than the one of these words.
+# What the program says of the title of a column of times of this form, if that is another clock than the one of these words, and the zone of it.
 said_of_clock <- function(title, folder, clock, words, beside) {
   path <- file.path(folder, "clock.csv")
   write_parts(`names<-`(lapply(c(paste0("2024-05-01", clock), "500000", "5000000"), parts_of_cells), c(title, "easting", "northing")), path)
   refusal <- run_split(path, c(paste0("--time=", title), words), file.path(folder, "clock"))
-  form <- paste0("^column 1 ('.*' says .*), and ", beside, ": .*$")
-  if (grepl(form, c(refusal$text, "")[1])) sub(form, "\\1", refusal$text)
+  form <- paste0("^column 1 ('.*' says .*), and ", beside, ": .*?(?:as by tz = \"([^\"]*)\".*)?$")
+  text <- c(refusal$text, "")[1]
+  found <- regmatches(text, regexec(form, text, perl = TRUE))[[1]]
+  if (length(found)) c(found[2], if (nzchar(found[3])) found[3] else "Europe/Ljubljana")
 }

@@ -93,8 +93,8 @@ is_part_of_other <- function(expression) {
 }
 
 # Refuses what is neither TRUE nor FALSE.
-check_truth <- function(value, name) {
-  if (!is_truth(value)) refuse("option", argument_text(name, value), " is neither TRUE nor FALSE")
+check_truth <- function(value, name, help = NULL) {
+  if (!is_truth(value)) refuse("option", argument_text(name, value), " is neither TRUE nor FALSE", help)
 }
 
 # An argument with its value, as a refusal has it.

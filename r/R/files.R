@@ -12,9 +12,15 @@ check_path <- function(path) {
 
 # Refuses what is no file that is there.
 check_file <- function(path, what) {
+  check_no_address(path, what)
   if (!nzchar(path)) refuse("option", argument_text(what, path), " is no path: it is empty")
   if (dir.exists(path)) refuse("file", path, " is a folder, and a file is wanted")
   if (!file.exists(path)) refuse("file", path, ": there is no such file")
+}
+
+# Refuses an address of something that is not on this machine.
+check_no_address <- function(path, what) {
+  if (grepl("^[A-Za-z][A-Za-z0-9+.-]+:/+[^/]", path)) refuse("option", argument_text(what, path), " is an address, and a path is wanted: load the file down before")
 }
 
 # A file that is open to be written; where it cannot be, what the system says of it is refused.

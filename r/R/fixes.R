@@ -23,7 +23,7 @@ facts_of <- function(fixes) attr(fixes, "homerange", exact = TRUE)
 as.data.frame.homerange_fixes <- function(x, row.names = NULL, optional = FALSE, ...) {
   attributes(x)[c("homerange", "groups")] <- NULL
   class(x) <- "data.frame"
-  if (!is.null(row.names)) row.names(x) <- row.names
+  if (!is.null(row.names)) row.names(x) <- checked_names(row.names, nrow(x))
   x
 }
 

@@ -144,6 +144,7 @@ values_of <- function(by, number, what) {
   if (length(dim(by)) > 1) {
     refuse("option", "by is a table, and a value for each row is wanted: take one column, or join several, as by paste(x$a, x$b)")
   }
+  if (is.list(by) && length(by) == number && number > 1 && all(lengths(by) == 1)) refuse("option", "by is a list, and a vector is wanted: unlist(..) makes one of it")
   if (is.list(by) && length(by) && all(lengths(by) == number)) {
     refuse("option", "by is a list of ", count_of(length(by), "vector"), ", and one vector is wanted: ",
            if (length(by) == 1) "take it, as by by[[1]]" else "join them, as by paste(by[[1]], by[[2]])")
@@ -208,6 +209,16 @@ check_labels <- function(labels, rows) {
            record = odd[1])
   }
   labels
+}
+
+# Of a column of groups that the program refuses, since it may be something else by its title, it is said how it is kept.
+named_by <- function(by, call) {
+  tryCatch(call, homerange_data_error = function(fault) {
+    text <- conditionMessage(fault)
+    is_kept <- is_text(by) && grepl(by, text, fixed = TRUE) && grepl("\\b(rename|remove it)\\b", text)
+    if (!is_kept) stop(fault)
+    refuse(fault$kind, text, "; of groups give it another title, as by names(x)[names(x) == \"", by, "\"] <- \"group\", by = \"group\"", record = fault$record)
+  })
 }
 
 is_period <- function(by) is_text(by) && by %in% names(periods)

@@ -2,6 +2,8 @@
 # its columns are known, of a file none are.
 
 titles_of_types <- c("gps-fix-type", "fix-type", "fixtype", "fix-status", "fixstatus", "type-of-fix")
+days_since <- list("days since 1970" = c(7305, 32874, 0), "days of Excel" = c(32874, 49310, 25569),  # 1990 to 2059, to 2034, and 1993 to 2077
+                   "modified Julian days" = c(49310, 80000, 40587), "Julian days" = c(2400000, 2500000, 2440587.5))
 parts_since_1970 <- list("13" = c("milliseconds", "1e3"), "16" = c("microseconds", "1e6"), "19" = c("nanoseconds", "1e9"))  # by their digits
 sign_helps <- c("%OS" = "%S has the decimals of seconds: write it for %OS", "%T" = "%H:%M:%S stands for %T", "%F" = "%Y-%m-%d stands for %F",
                 "%R" = "%H:%M stands for %R", "%e" = "%d stands for %e",
@@ -120,13 +122,20 @@ kinds_said <- function(frame, at) {
 # A number that counts something else than seconds since 1970. What has a clock without a zone is made text, which tz reads.
 help_for_count <- function(found, frame) {
   at <- match(found[3], one_line(titles_in(frame)))
-  if (is.na(at)) return(found[1])
+  kind <- names(Filter(function(days) as.numeric(found[4]) >= days[1] && as.numeric(found[4]) < days[2], days_since))
+  looks_so <- length(kind) && grepl("days", found[5], fixed = TRUE)
+  said <- if (looks_so) paste0(found[3], " is '", found[4], "', which looks like ", kind) else found[2]
+  if (is.na(at)) return(sub(found[2], said, found[1], fixed = TRUE))
   own <- paste0("x[[\"", titles_in(frame)[at], "\"]]")
   numbers <- if (is.numeric(as.list(frame$x)[[at]])) own else paste0("as.numeric(as.character(", own, "))")
-  since <- if (startsWith(found[5], "which looks like days of Excel")) "25569" else if (startsWith(found[5], "which looks like Julian days")) "2440587.5"
-  if (!is.null(since)) {
-    return(paste0(found[2], ": make moments of it, as by ", own, " <- format(as.POSIXct(round(86400 * (", numbers, " - ", since,
-                  ")), origin = \"1970-01-01\", tz = \"UTC\"))"))
+  if (length(kind)) {
+    since <- days_since[[kind]][3]
+    are_whole <- !any(grepl(".", cells_of_column(as.list(frame$x)[[at]], found[3]), fixed = TRUE))
+    days <- if (since) paste0("(", numbers, " - ", format(since, digits = 15), ")") else numbers
+    is_date <- since == 0 && are_whole
+    made <- if (is_date) paste0("as.Date(", numbers, ", origin = \"1970-01-01\")") else
+      paste0("format(as.POSIXct(round(86400 * ", days, "), origin = \"1970-01-01\", tz = \"UTC\"))")
+    return(paste0(said, ": ", if (!looks_so) paste0("if it is ", kind, ", "), "make ", if (is_date) "days" else "moments", " of it, as by ", own, " <- ", made))
   }
   part <- parts_since_1970[[as.character(nchar(found[4]))]]
   if (is.null(part)) return(found[1])
@@ -163,6 +172,17 @@ help_for_dots <- function(found, frame) {
   paste0(found[2], ": '", own[1], "' may be it, as read.csv changes titles: keep them, by read.csv(.., check.names = FALSE)")
 }
 
+# A moment that is none, with the option whose it is.
+help_for_bound <- function(found, frame) {
+  own <- Filter(function(name) identical(as.vector(frame$given[[name]]), found[2]), bound_options)
+  if (length(own)) paste0(own[1], ": ", found[1]) else found[1]
+}
+
+# A column that there is not, where commas and bars stand in titles.
+help_for_column <- function(found, frame) {
+  if (any(grepl("[,|]", titles_in(frame)))) paste0(found[1], ": rename columns whose titles have a comma or |") else help_for_dots(found, frame)
+}
+
 # What the program says, and what is said in its place.
 helps <- list(
   list("^((.*) is '(.*)' and not a time (?:such as 2024-05-01 00:30:04|of the form .*?))(?:: (?:if it is one|name its form), .*)?$", help_for_time),
@@ -171,7 +191,9 @@ helps <- list(
   list("^(column [0-9]+ '(.*)' has days with clocks), and the times that are read are days alone: name it .*$", help_for_moments),
   list("^((.*) is '(.*)' and not a number of up to 12 digits)(?:: write .*)?$", help_for_number),
   list("^(.* is '00[0-9]{2}-[^']*', which is no time since 1970, and not within 0 to [0-9]+ seconds): if its year .*$", help_for_year),
-  list("^(.*there is no column '(.*)'); the table has .*$", help_for_dots),
+  list("^(.*there is no column '(.*)'); the table has .*$", help_for_column),
+  list("^'(.*)' is no time in .*$", help_for_bound),
+  list("^( *) is no zone as 33N$", function(found, frame) paste0("zone = \"", found[2], "\" is no zone as 33N")),
   list("^(no line begins with '(.*)', as that of titles does)$", help_for_dots),
   list("^no fix is left; left out by reason: type [0-9]+$", help_for_types),
   list("^((.*) is '([0-9.]+)', (which (?:looks like|is no second since 1970).*)): write a time such as .*$", help_for_count),

@@ -16,7 +16,7 @@ home_range <- function(x, levels = c(50, 95, 100), by = NULL, ..., progress = in
   program <- homerange_program()  # refuses now, and not after all has been read, where there is none
   ranges <- in_folder(function(folder) {
     if (is_period(by)) check_period(by, names(x))
-    read <- fixes_to_take(x, list(...), quiet, folder, by)
+    read <- named_by(by, fixes_to_take(x, list(...), quiet, folder, by))
     whole <- whole_fixes(read$fixes)
     if (!is.null(by)) {
       labels <- labels_of(read$fixes, by, read$frame, is_text(x))

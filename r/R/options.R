@@ -64,6 +64,7 @@ options_given <- function(options) {
   if (is_of_session(options) && !given$tz %in% OlsonNames()) {
     refuse("option", "tz = \"\" is the zone of the session, ", given$tz, ", which has no name: name it, such as tz = \"Europe/Ljubljana\"")
   }
+  words_of_options(given)  # what cannot be right is refused before anything is looked for
   given
 }
 
@@ -75,7 +76,7 @@ check_options <- function(options) {
   refuse("option", "there is no option ", name, if (name %in% names(elsewhere)) paste0(": ", elsewhere[[name]]))
 }
 
-is_of_session <- function(options) identical(as.vector(options[["tz"]]), "")
+is_of_session <- function(options) is_text(options[["tz"]]) && !nzchar(options[["tz"]])
 
 # Options as words; the reference system is not one of them.
 words_of_options <- function(given) {

@@ -13,7 +13,8 @@ plot.home_range <- function(x, what = c("ranges", "curve"), levels = 100, animal
   if (reset) on.exit(par(old), add = TRUE)
   for (side in c("xlim", "ylim")) check_limits(get(side), side)
   for (word in c("main", "xlab", "ylab", "label")) check_word(get(word), word)
-  asked <- list(main = if (is.null(main)) "" else main, xlab = xlab, ylab = ylab, xlim = xlim, ylim = ylim, titles = list(...))
+  asked <- list(main = if (is.null(main)) "" else as_label(main), xlab = as_label(xlab), ylab = as_label(ylab), xlim = xlim, ylim = ylim,
+                titles = list(...))
   check_drawing(what, levels, over, share, by)
   if (what == "curve") {
     draw_curves(x, drawn, by, share, facets, asked)
@@ -25,7 +26,7 @@ plot.home_range <- function(x, what = c("ranges", "curve"), levels = 100, animal
 
 # Refuses arguments that another drawing has.
 check_drawing <- function(what, levels, over = NULL, share = FALSE, by = "fix") {
-  of_map <- c(levels = !identical(as.numeric(levels), 100), over = !is.null(over))
+  of_map <- c(levels = !(is_number(levels) && levels == 100), over = !is.null(over))
   of_curve <- c(share = share, by = by != "fix")
   odd <- names(which(if (what == "curve") of_map else of_curve))[1]
   if (is.na(odd)) return(invisible())
@@ -55,9 +56,12 @@ check_ends <- function(value, name, drawn, help = NULL, as_text = function(end) 
 
 # Refuses what cannot be written beside a drawing.
 check_word <- function(value, name) {
-  is_good <- is.null(value) || is.expression(value) || is.call(value) || is.atomic(value) && length(value) == 1
+  is_good <- is.null(value) || is.expression(value) || is.call(value) || is.atomic(value) && length(value) == 1 && !is.factor(value)
   if (!is_good) refuse("option", argument_text(name, value), " is no text")
 }
+
+# What is written beside a drawing: a formula as one, and not as what it would come to.
+as_label <- function(value) if (is.call(value)) as.expression(value) else value
 
 arguments_of_titles <- c("sub", "outer", "family", paste0(c("cex.", "col.", "font."), rep(c("main", "sub", "lab"), each = 3)))
 
@@ -80,6 +84,7 @@ drawn_animals <- function(ranges, animals, col) {
   drawn <- data.frame(number = number, name = known[number], colour = animal_colours[(number - 1) %% length(animal_colours) + 1])
   if (is.null(col)) return(drawn)
   if (is.factor(col)) col <- `names<-`(as.character(col), names(col))
+  if (!is.list(col) && !is.character(col) && !is.numeric(col) && !is.logical(col)) refuse("option", "col: ", what_it_is(col), " is no colour")
   is_colour <- vapply(col, function(own) !is.na(own) && !inherits(try(col2rgb(own), silent = TRUE), "try-error"), NA)
   odd <- if (length(col)) unlist(col)[!is_colour] else list(col)
   if (length(odd)) refuse("option", "col: ", what_it_is(odd[[1]]), " is no colour")

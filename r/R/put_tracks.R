@@ -1,6 +1,11 @@
 # Puts the fixes of ranges into a folder as files, with the record of how they were made.
 
-changed_fixes <- "the fixes are not as they were read: what was left out before is neither in the folder nor on its page"
+# What is said of fixes that were changed since they were read.
+changed_fixes <- function(x) {
+  gone <- sum(x$left_out$fixes[x$left_out$reason == "chosen"])
+  paste0("the fixes are not as they were read: ", if (gone) paste0(sprintf("%.0f", gone), " of them ", if (gone == 1) "was" else "were", " taken away since, and "),
+         "what was left out before is neither in the folder nor on its page")
+}
 
 # Puts the tracks of ranges into a folder: the files that were read, with the record that was named or lies beside them, or the fixes.
 # Answers the names that animals have in files.
@@ -32,7 +37,7 @@ record_of_ranges <- function(x) {
   lines <- x$read$record
   if (!isTRUE(x$read$is_again)) return(lines)
   at <- c(grep("^(left|track|tool),", lines), length(lines) + 1)[1]
-  append(lines, paste0("said,", changed_fixes), at - 1)
+  append(lines, paste0("said,", changed_fixes(x)), at - 1)
 }
 
 # Copies files of fixes into a folder.
@@ -62,6 +67,6 @@ put_files <- function(x, folder) {
 
 # Says of fixes that they were changed since they were read, and of animals that they have other names in files.
 tell_of_tracks <- function(x, names) {
-  if (is.null(x$files) && isTRUE(x$read$is_again)) tell_note(changed_fixes, "left_out")
+  if (is.null(x$files) && isTRUE(x$read$is_again)) tell_note(changed_fixes(x), "left_out")
   for (line in renames_of(x$animals$animal, names)) tell_note(line, "renamed")
 }

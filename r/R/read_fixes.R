@@ -25,6 +25,7 @@ read_table <- function(x, options, quiet, folder, has_rows = TRUE, used = NULL) 
     read_again(x, given, folder, has_rows, used)
   } else if (is_text(x)) {
     if (!nzchar(x)) refuse("option", argument_text("x", x), " is no path")
+    check_no_address(x, "x")
     read_file(x, given, folder)
   } else {
     with_left_before(read_frame(x, given, folder, has_rows), x, given$animal)

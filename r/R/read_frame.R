@@ -19,6 +19,7 @@ remedy_of_metres <- paste0(": if they are metres, give the points the reference 
 # The fixes of a data frame.
 read_frame <- function(x, given, folder, has_rows) {
   check_frame(x, given)
+  for (at in which(vapply(as.list(x), inherits, NA, "AsIs"))) x[[at]] <- without_class(x[[at]], "AsIs")
   frame <- frame_to_split(x, with_columns_of(x, given))
   into <- file.path(folder, "tracks")
   frame <- split_frame(frame, folder, into, has_rows)
@@ -146,8 +147,11 @@ with_moments <- function(frame, refusal) {
   refused <- frame$moments[startsWith(rep(said, length(own)), own)]
   is_unnamed <- grepl("no column has a usual title for the time", refusal$text, fixed = TRUE) && is.null(frame$given[["time"]])
   if (is_unnamed && length(frame$moments) == 1) {
-    frame$given[["time"]] <- frame$moments
     frame$finds_time <- TRUE
+    if (grepl("[,|]", frame$moments)) refused <- frame$moments else frame$given[["time"]] <- frame$moments
+  }
+  if (isTRUE(frame$finds_time) && !length(refused)) {
+    return(frame)
   } else if (length(refused) && is.null(frame$renamed)) {
     frame$renamed <- c(from = refused[[1]], to = free_title("datetime", names(frame$parts)))
     names(frame$parts)[names(frame$parts) == refused[[1]]] <- frame$renamed[["to"]]
@@ -200,8 +204,9 @@ check_cells <- function(frame, said) {
   check_units(frame, said)
   has_animal <- !any(startsWith(said, "no column has a usual title for the animal"))
   if (!has_animal && isTRUE(frame$finds_time) && is.null(frame$given$name)) {
-    refuse("columns", "no column has a usual title, neither for the animal nor for the time: name them, as by animal = .. and ",
-           "time = \"", frame$given[["time"]], "\"")
+    own <- if (is.null(frame$renamed)) frame$given[["time"]] else frame$renamed[["from"]]
+    refuse("columns", with_rename(paste0("no column has a usual title, neither for the animal nor for the time: name them, as by animal = .. and ",
+                                         "time = \"", own, "\""), frame))
   }
   if (has_animal) for (title in titles_of_animals(frame, said)) check_names(frame, title)
 }
@@ -263,9 +268,26 @@ refuse_cell <- function(frame, kind, odd) {
 # The titles of columns that were named as the time.
 titles_of_time <- function(frame) unlist(strsplit(paste(frame$given[["time"]], collapse = ","), ","))
 
-# Refuses a form of times for columns of moments, which have one form, unless several columns are joined.
-check_text_form <- function(frame, titles) {
+# What is said, with what is to be done before where it names a column for an option which takes its title for several.
+with_rename <- function(text, frame) {
+  titles <- grep("[,|]", c(frame$renamed[["from"]], titles_in(frame)), value = TRUE)
+  is_named <- function(title) {
+    own <- paste0("\\Q", one_line(title), "\\E")
+    options <- if (grepl("|", title, fixed = TRUE)) "[a-z]" else "\\b(animal|time)"
+    grepl(paste0(options, " = (\"[^\"]*|c\\([^)]*)", own), text, perl = TRUE) || grepl(paste0("'", own, "'.*COLUMN\""), text, perl = TRUE)
+  }
+  odd <- Filter(is_named, titles)
+  if (length(odd)) text <- paste0(text, "; rename '", one_line(odd[1]), "' before, since a comma or | stands between titles")
+  text
+}
+
+# Refuses a form of times for columns of moments, which have one form, unless several columns are joined; so is one that a maker has.
+check_text_form <- function(frame, titles, is_of_maker = FALSE) {
   own <- intersect(titles, frame$moments)
+  if (length(own) && is_of_maker && !is.null(frame$given[["from"]])) {
+    refuse("option", with_rename(paste0("from = \"", frame$given[["from"]], "\" has a form for texts, and '", one_line(own[1]), "' has moments: leave from out, ",
+                                        "and name columns, as by animal = .., time = \"", own[1], "\""), frame))
+  }
   if (is.null(frame$given$time_format) || !length(own) || length(titles_of_time(frame)) > 1) return(invisible())
   refuse("option", "time_format is for texts, and '", one_line(own[1]), "' has moments: leave it out")
 }
@@ -276,7 +298,7 @@ titles_at_start <- function(titles, text) titles[startsWith(rep(text, length(tit
 # Refuses what the program refused of a frame. An odd cell is named by its class.
 refuse_frame <- function(frame, refusal, folder) {
   text <- with_own_title(sub(file.path(folder, name_of_frame), "the table", refusal$text, fixed = TRUE), frame)
-  if (refusal$kind == "time") check_text_form(frame, titles_at_start(frame$moments, text))
+  if (refusal$kind == "time") check_text_form(frame, titles_at_start(frame$moments, text), grepl(" of the form ", text, fixed = TRUE))
   odd <- Filter(Negate(is.null), lapply(frame$parts, odd_cell))
   odd <- Filter(function(cell) grepl(paste0("<", cell$class, ">"), refusal$text, fixed = TRUE), odd)
   named <- vapply(names(odd), grepl, NA, refusal$text, fixed = TRUE)
@@ -288,7 +310,7 @@ refuse_frame <- function(frame, refusal, folder) {
     text <- sub(": coordinates in metres are named by .*", remedy_of_metres, text)
   }
   if (grepl("both fit the time: |and not a time ", text)) text <- with_remedy_of_moments(text, frame)
-  text <- with_help(text, frame)
+  text <- with_rename(with_help(text, frame), frame)
   refuse_row(frame$x, refusal$kind, refusal$record, paste0(of_frame(text, frame$x), remedy_of_fixes(frame$x, refusal)))
 }
 
@@ -357,7 +379,7 @@ zone_of_column <- function(column, turned) if (inherits(turned, "Date")) zone_of
 # The zone of date-times. What R has without one is by the clock of the session.
 zone_of_times <- function(times) {
   zone <- sub("^:", "", if (has_zone(times)) attr(times, "tzone")[1] else zone_of_session())
-  if (zone %in% c("GMT", "Etc/UTC", "Etc/GMT")) "UTC" else zone
+  if (grepl(names_of_utc, zone)) "UTC" else zone
 }
 
 has_zone <- function(times) c(attr(times, "tzone"), "")[1] != ""

@@ -16,7 +16,8 @@ unescaped <- function(texts, form = "\\\\(x(?:[0189][0-9a-f]|7f)|u202[89])") {
 # What a record says.
 read_record <- function(path) {
   check_file(path, "record")
-  lines <- readLines(path, warn = FALSE, encoding = "UTF-8")
+  lines <- suppressWarnings(readLines(path, warn = FALSE, encoding = "UTF-8"))
+  if (!all(validUTF8(lines))) refuse("text", path, " is no text in UTF-8")
   kinds <- sub(",.*", "", lines)
   rest <- substring(lines, nchar(kinds) + 2)
   refuse_line <- function(bad) {

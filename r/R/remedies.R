@@ -17,7 +17,10 @@ remedy_of_class <- function(column, class, days = NULL, title = NULL, moment = N
   switch(
     class, difftime = , Period = , Duration = paste0("if it is a time, ", in_seconds),
     Interval = "lubridate::int_start(x) makes times of it",
-    haven_labelled = , haven_labelled_spss = "haven::as_factor(x) makes text of it", chron = , dates = , nanotime = "as.POSIXct(x) makes times of it",
+    haven_labelled = , haven_labelled_spss = "haven::zap_labels(x) makes numbers of it, and haven::as_factor(x) text",
+    chron = , dates = "format(round(as.POSIXct(x), \"secs\"), tz = \"UTC\") makes text of it",
+    nanotime = , clock_sys_time = "as.POSIXct(x, tz = \"UTC\") makes times of it", timeDate = , clock_zoned_time = "as.POSIXct(x) makes times of it",
+    clock_naive_time = , clock_year_month_day = "format(x) makes text of it", list = "do.call(c, x) makes a vector of it",
     "make text, numbers or times of it"
   )
 }
@@ -61,10 +64,16 @@ check_columns_within <- function(x) {
   }
 }
 
+# The titles that are joined at the start of what the program says of a time.
+titles_joined <- function(text, titles) {
+  start <- paste0(" ", sub(" is '.*", "", text), " ")
+  titles[vapply(paste0(" ", one_line(titles), " "), grepl, NA, start, fixed = TRUE)]
+}
+
 # What the program says of days and times that it joins, or would join, where they are more than days and clocks.
 with_remedy_of_moments <- function(text, frame) {
   both <- regmatches(text, regexec("'([^']*)' and column [0-9]+ '([^']*)' both fit the time: ", text))[[1]][-1]
-  titles <- if (length(both)) both else titles_of_time(frame)
+  titles <- if (length(both)) both else if (is.null(frame$given[["from"]])) titles_of_time(frame) else titles_joined(text, titles_in(frame))
   if (length(titles) < 2) return(text)
   own <- as.list(frame$x)[match(titles, one_line(readable(names(frame$x))))]
   moments <- Filter(is_of_moments, own)

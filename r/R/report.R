@@ -278,6 +278,7 @@ read_report <- function(file, start = NULL, files = NULL, record = NULL, ...) {
   files <- if (!is.null(files)) expanded(files)
   record <- if (!is.null(record)) expanded(record)
   check_file(file, "file")
+  check_begin(file)
   report <- parse_report(report_text(file), file)
   animals <- report$animals$animal
   counts <- matrix(NA_real_, length(animals), length(animals), dimnames = list(animals, animals))
@@ -402,6 +403,20 @@ write_report <- function(x, path, overwrite = FALSE, ...) {
   write_report_as(x, names, path)
   for (line in renames_of(x$animals$animal, names)) tell_note(line, "renamed")
   invisible(path)
+}
+
+# Refuses a file that neither begins nor ends as a report; of one with bytes 0 it is said elsewhere that it is no text in UTF-8.
+check_begin <- function(path) {
+  input <- file(path, "rb")
+  on.exit(close(input))
+  first <- readBin(input, "raw", 4096)
+  seek(input, max(file.size(path) - longest_end, 0))
+  ends <- grepl(end_form, rawToChar(Filter(as.logical, readBin(input, "raw", longest_end))), useBytes = TRUE)
+  is_wide <- any(utils::head(first, 4) == 0)
+  begins <- grepl("^(unit,d?m\r?\n)?animal,[^\n]*,fixes,[0-9]", rawToChar(first[first != 0]), useBytes = TRUE)
+  if (length(first) && !is_wide && !begins && !ends) {
+    refuse("report", path, " is no report: it does not begin as one, with a line 'animal,NAME,fixes,NUMBER'")
+  }
 }
 
 # Whether a file begins as a report does.

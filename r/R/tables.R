@@ -48,10 +48,15 @@ as.data.frame.home_range <- function(x, row.names = NULL, optional = FALSE, ...,
   table <- table[c(first, setdiff(names(table), c(first, "first", "last", "left_out")))]
   if (isTRUE(stringsAsFactors)) table$animal <- factor(table$animal, unique(table$animal))
   if (is.null(row.names)) return(table)
-  if (length(row.names) != nrow(table) || anyNA(row.names) || anyDuplicated(row.names)) {
-    refuse("option", "row.names: a name for each of ", nrow(table), " rows is wanted, and each another")
+  `row.names<-`(table, checked_names(row.names, nrow(table)))
+}
+
+# Names of so many rows.
+checked_names <- function(names, number) {
+  if (!is.atomic(names) || length(names) != number || anyNA(names) || anyDuplicated(names)) {
+    refuse("option", "row.names: a name for each of ", number, " rows is wanted, and each another")
   }
-  `row.names<-`(table, row.names)
+  names
 }
 
 # How many fixes were left out of the table, by animal and reason.
@@ -80,7 +85,7 @@ homerange_curve <- function(x, area = "ha", units = FALSE, ...) {
 homerange_overlap <- function(x, share = FALSE, levels = 100, tidy = FALSE, ...) {
   check_dots(...)
   check_ranges(x)
-  check_truth(share, "share")
+  check_truth(share, "share", if (is_number(share)) paste0(": a level is named, as by levels = ", cells_of_numbers(share)))
   check_truth(tidy, "tidy")
   check_levels(x, levels)
   counts <- lapply(levels, function(level) if (level == 100) x$overlaps else overlaps_at_level(x, level))

@@ -6,15 +6,16 @@ from __future__ import annotations
 import os
 import re
 from collections import Counter
+from contextlib import contextmanager
 from dataclasses import replace
 from datetime import timezone
 from pathlib import Path
-from typing import Any, Callable, NamedTuple, Sequence
+from typing import Any, Callable, Iterator, NamedTuple, Sequence
 
 import numpy
 import pandas
 
-from ..errors import BYTES, UNPRINTABLE, FrameError, fault_of_text, one_line, refuse
+from ..errors import BYTES, UNPRINTABLE, FrameError, calling, fault_of_text, one_line, refuse, shown
 from ..program import find_split_program
 from ..read.call import split_table
 from ..read.cells import cells_of, is_time, odd_row, row_named
@@ -28,6 +29,10 @@ from .tracks import Tracks
 
 # Seasons are named by their months, since those of north and south have other names.
 SEASONS = ("Dec-Feb", "Mar-May", "Jun-Aug", "Sep-Nov")
+OF_TABLE = ("by is a table, and a value for each row is wanted: take one column, or join several, as by frame['a'].astype(str) + ' ' + "
+            "frame['b'].astype(str)")
+OTHERS: dict[type, str] = {dict: ": a column has it for each fix, as by fixes['animal'].map(by)", set: (ORDERED := ": a set has no order, and a list has one"),
+                           frozenset: ORDERED}  # what is no value for each fix, and what helps
 REMEDY = "leave fixes without a group out before"
 LABELS = "groups.csv"  # the table of groups as names, of which the program asks whether some are one
 ALIKE = re.compile("animals ('.* alone: are they one[?])")
@@ -66,10 +71,25 @@ def check_by(by: Any, is_file: bool = False) -> None:
     if is_file and not isinstance(by, str) and not callable(by):
         refuse("by goes by rows, and fixes of a file stand in another order: read the file before, as by pandas.read_csv, and hand in "
                "the data frame, with a value for each of its rows")
+    if getattr(by, "ndim", 1) > 1:
+        refuse(OF_TABLE)
     is_list = pandas.api.types.is_list_like(by) and hasattr(by, "__len__")
-    if not isinstance(by, str) and not callable(by) and (not is_list or isinstance(by, (dict, set, frozenset, pandas.DataFrame, *BYTES))):
-        refuse(f"by={by!r} is none of {', '.join(map(repr, PERIODS))}, no column of the fixes, no value for each of them, and no "
-               "function of them")
+    if not isinstance(by, str) and not callable(by) and (not is_list or isinstance(by, (*OTHERS, *BYTES))):
+        helps = next((helps for kind, helps in OTHERS.items() if isinstance(by, kind)), "")
+        refuse(f"by={shown(by)} is none of {', '.join(map(repr, PERIODS))}, no column of the fixes, no value for each of them, and no "
+               f"function of them{helps}")
+
+
+@contextmanager
+def named_by(by: Any) -> Iterator[None]:
+    """Of a column of groups that the program refuses, since it may be something else by its title, it is said how it is kept."""
+    try:
+        yield
+    except FrameError as fault:
+        said = str(fault)
+        if not isinstance(by, str) or by not in said or not re.search(r"\b(rename|remove it)\b", said):
+            raise
+        refuse(f"{said}; of groups give it another title, as by frame.rename(columns={{{by!r}: 'group'}}), by='group'", fault.kind, fault.record)
 
 
 def is_period(by: Any) -> bool:
@@ -82,12 +102,14 @@ def labels_of(table: ReadTable, by: Any) -> list[str]:
     fixes, labels = table.fixes, table.fixes.index
     if is_period(by):
         if by in with_named_levels(fixes if table.frame is None else table.frame):
-            refuse(f"by={by!r} is a period of the calendar, and a column too: by=fixes[{by!r}] takes the column")
+            refuse(f"by={shown(by)} is a period of the calendar, and a column too: by=fixes[{by!r}] takes the column")
         return periods(fixes, by)
     if isinstance(by, str):
         return given(column_named(table, by), labels)
     if callable(by):
-        return given(values_of_function(by(fixes), fixes), labels)
+        with calling("by: the function of the fixes", ": a title, or a period such as 'month', stands in quotes"):
+            values = by(fixes)
+        return given(values_of_function(values, fixes), labels)
     frame = fixes if table.frame is None else table.frame
     values = values_of_fixes(by, frame) if isinstance(frame, Fixes) and is_known(frame) else values_for(by, frame)
     return given(values if table.rows is None else values.iloc[table.rows], labels)
@@ -167,8 +189,7 @@ def values_for(values: Any, frame: pandas.DataFrame) -> pandas.Series:
     is_list = pandas.api.types.is_list_like(values) and hasattr(values, "__len__") and not isinstance(values, BYTES)
     count = len(values) if is_list else None
     if getattr(values, "ndim", 1) > 1:
-        refuse("by is a table, and a value for each row is wanted: take one column, or join several, as by frame['a'].astype(str) + ' ' + "
-               "frame['b'].astype(str)")
+        refuse(OF_TABLE)
     if count != len(frame):
         refuse_titles(values, frame)
         refuse_lists(values, frame)
@@ -270,7 +291,7 @@ def why_no_calendar(fixes: Fixes) -> str:
 def periods(fixes: Fixes, by: str) -> list[str]:
     """The period of each fix, by the clock of the fixes."""
     if "time" not in fixes:
-        refuse(f"by={by!r}: {why_no_calendar(fixes)}")
+        refuse(f"by={shown(by)}: {why_no_calendar(fixes)}")
     own = fixes["time"].dt
     months, at = numpy.unique(own.year.to_numpy() * 12 + own.month.to_numpy() - 1, return_inverse=True)
     names = [PERIODS[by](int(month) // 12, int(month) % 12 + 1) for month in months]

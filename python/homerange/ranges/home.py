@@ -15,7 +15,7 @@ import pandas
 
 from ..arguments import says_ours
 from ..bar import progress_of
-from ..errors import BYTES, ReportError, check_file, path_of, refuse, truth_of
+from ..errors import ReportError, check_file, is_several, path_of, refuse, shown, truth_of
 from ..program import Program, checksum_of, find_program, program_of
 from ..read.fixes import Fixes, clock_of, is_of_fixes, reading_of
 from ..read.reading import ReadTable, has_calendar, read_again, read_table, tell, times_of
@@ -25,7 +25,7 @@ from ..record import Record, difference_from_record, read_record
 from ..report import Corners, Percent, Report, Table, doubled_area, read as read_lines
 from ..units import UNITS, zone_of_time, zone_text
 from ..zones import text_of_crs
-from .groups import Group, check_by, group_tracks, is_period, labels_of, questions_of, said_of_period
+from .groups import Group, check_by, group_tracks, is_period, labels_of, named_by, questions_of, said_of_period
 from .growth import share
 from .outer import counts_within, polygon_kept
 from .overview import Facts, Row, facts_of, reasons_of, rows_of
@@ -49,10 +49,13 @@ class HomeRanges:
     ranges, such as 'fox 2024', ``groups`` has by these names the animal and the group, and tables have a column ``group``.
     """
 
+    @says_ours
     def __init__(
         self, report: Report, tracks: Tracks | None, *, crs: Any = None, tz: str = "UTC", program: Program | None = None,
         named: str | os.PathLike[str] | None = None,
     ) -> None:
+        if not isinstance(report, Report):
+            refuse(f"report={shown(report)} is no report: home_range and read_report make ranges")
         self._report, self._tracks, self.program = report, tracks, program
         # The program of later runs; None finds one.
         self.named = program and program.path if named is None else path_of(named, "program")
@@ -127,12 +130,18 @@ class HomeRanges:
     @says_ours
     def by_group(self, table: pandas.DataFrame) -> pandas.DataFrame:
         """A table with a column of animals, which where ranges are by groups gets one of groups behind it."""
+        if not isinstance(table, pandas.DataFrame) or "animal" not in table:
+            refuse(f"table={type(table).__name__} is no table of these ranges, with a column animal")
+        odd = next((name for name in table["animal"] if name not in self.groups), None) if self.groups else None
+        if odd is not None:
+            refuse_animal(odd, self.groups)
         if self.groups:
             known = [self.groups[name] for name in table["animal"]]
             table["animal"] = [animal for animal, _ in known]
             table.insert(1, "group", [group for _, group in known])
         return table
 
+    @says_ours
     def of_source(self) -> Counter[str]:
         """How many records of the export or the frame each animal has; empty where it is not known."""
         if self.record:
@@ -144,10 +153,12 @@ class HomeRanges:
             found[name] += count
         return found
 
+    @says_ours
     def reasons(self) -> Counter[tuple[str, str]]:
         """How many fixes were left out, by animal and reason, as far as it is known."""
         return self.record.left_out() if self.record else self._tracks.reasons if self._tracks else Counter()
 
+    @says_ours
     def rows(self) -> list[Row]:
         """The facts of each animal in whole numbers, of which ``overview`` makes a table."""
         records, tracks = self.of_source(), self._tracks
@@ -232,7 +243,7 @@ class HomeRanges:
         animal lie in its own polygon, whatever levels the ranges were made at; the columns are named by the level, as
         ``in_range_of_100``. For a lower level the package counts all fixes of the row's animal in the polygon of
         that level of the column's, by whole numbers; that needs the fixes."""
-        is_share = truth_of(share, "share")
+        is_share = truth_of(share, "share", f": a level is named, as by level={share!r}" if whole_number(share) in {100, *self.levels} else "")
         fixes = {name: table.fixes for name, table in self._report.tables.items()}
         if self._level(level) == 100:
             counts = {**self._report.overlaps, **{(name, name): count for name, count in fixes.items()}}
@@ -374,7 +385,7 @@ def whole_number(value: Any) -> int | None:
 
 def whole_numbers(values: Any, least: int, most: int, what: str) -> list[int]:
     """One whole number, or several, within bounds, of an argument; all else is refused."""
-    several = isinstance(values, Iterable) and not isinstance(values, (str, *BYTES)) and getattr(values, "ndim", 1) > 0
+    several = is_several(values)
     given = list(values) if several else [values]
     found = [number for number in map(whole_number, given) if number is not None and least <= number <= most]
     if not given or len(found) < len(given):
@@ -398,7 +409,7 @@ def remedy(given: Sequence[Any], what: str) -> str:
 def jobs_of(jobs: Any) -> int:
     """How many processors are to be taken."""
     found = whole_number(jobs)
-    return found if found is not None and 1 <= found <= 1024 else refuse(f"jobs={jobs!r} is no whole number from 1 to 1024")
+    return found if found is not None and 1 <= found <= 1024 else refuse(f"jobs={shown(jobs)} is no whole number from 1 to 1024")
 
 
 def levels_of(levels: Any, what: str = "levels") -> list[int]:
@@ -445,7 +456,8 @@ def home_range(
         jobs = jobs_of(jobs)
     shown, found = progress_of(progress), program_of(find_program(program))
     with tempfile.TemporaryDirectory(prefix="homerange-") as folder:
-        table = table_of(x, reading, Path(folder), program, by)
+        with named_by(by):
+            table = table_of(x, reading, Path(folder), program, by)
         tracks, groups = tracks_of_fixes(table.fixes), dict[str, Group]()
         if by is not None:
             labels = labels_of(table, by)
@@ -491,9 +503,9 @@ def read_report(
     record: split.txt of the files, from which it is known what was left out, the reference system and the shift. One of another
         report or other files is refused, and so are another crs and another shift beside it (FrameError).
     """
-    if isinstance(files, (str, os.PathLike, *BYTES)) or not isinstance(files, Iterable):
+    if isinstance(files, (os.PathLike, Mapping, pandas.DataFrame)) or not is_several(files):
         such = repr(files) if isinstance(files, (str, os.PathLike)) else "'fox.csv'"
-        refuse(f"files={files!r} are not several paths, such as [{such}]: leave files out where there are none")
+        refuse(f"files={shown(files)} are not several paths, such as [{such}]: leave files out where there are none")
     zone = zone_text(tz)
     check_grid(crs, zone, shift)
     report, paths = read_lines(check_file(path_of(path, "path")), rows_in), [check_file(path_of(file, "files")) for file in files]
@@ -507,7 +519,7 @@ def check_grid(crs: Any, tz: str, shift: Any) -> None:
     if crs is not None:
         crs_named(crs, "name that of the coordinates of the report, which are eastings and northings in metres")
     if not isinstance(shift, tuple) or len(shift) != 2 or None in map(whole_number, shift):
-        refuse(f"shift={shift!r} are not two whole numbers, such as (1000000, 0)")
+        refuse(f"shift={shown(shift)} are not two whole numbers, such as (1000000, 0)")
 
 
 def ranges_of(report: Report, path: Path, files: Sequence[Path], crs: Any, tz: str, shift: tuple[int, int], split: Path | None,

@@ -31,7 +31,7 @@ HELP_WIDE = ("the reserve reaches to where the CRS of the ranges has no places: 
              "reserve.clip(box)")
 
 
-def boundary_of(reserve: Any, crs: Any, box: Bounds) -> Any:
+def boundary_of(reserve: Any, crs: Any, box: Bounds, name: str = "reserve") -> Any:
     """The shape of a reserve, in the reference system of ranges that lie in this box."""
     own = getattr(reserve, "crs", None)
     if is_of_geopandas(reserve):
@@ -45,7 +45,7 @@ def boundary_of(reserve: Any, crs: Any, box: Bounds) -> Any:
         check_shape(reserve, "", "shapely.validation.make_valid(reserve)")
         shapes = [reserve]
     else:
-        refuse(f"reserve is neither a GeoDataFrame with a geometry, a GeoSeries nor a shape of shapely: {help_for(reserve)}")
+        refuse(f"{name} is neither a GeoDataFrame with a geometry, a GeoSeries nor a shape of shapely: {help_for(reserve).replace('reserve', name)}")
     refuse_flat(shapes, is_of_geopandas(reserve))
     boundary = union_of(shapes if own is None or own == crs else turned_shapes(shapes, own, crs, box))
     if own is None and is_in_degrees(boundary.bounds) and not meets(boundary.bounds, box):

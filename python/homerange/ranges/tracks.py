@@ -87,8 +87,8 @@ def read_track(path: str | os.PathLike[str]) -> tuple[str, Track, int]:
     """The animal of a file, its used fixes, of which there may be none, and how many are not used."""
     numbers: dict[str, list[int]] = {title: [] for title in ("second", "easting", "northing")}
     animals, count = list[str](), 0
-    with open(path, encoding="utf-8-sig", newline="") as file:
-        lines = csv.reader(file)
+    with open(path, encoding="utf-8-sig", errors="surrogateescape", newline="") as file:
+        lines = csv.reader(line.replace("\0", "") for line in file)  # of a file that is no text too
         at = {title: place for place, title in enumerate(next(lines, []))}
         rows = filter(None, lines) if {"animal", *numbers} <= {*at} else iter(())
         while some := list(itertools.islice(rows, ROWS)):

@@ -22,7 +22,6 @@ WIDTHS = {"float16": 2 ** 11, "float32": 2 ** 24}  # the same of narrower ones
 MOST_SHORT = 1e12  # below which numbers of floating point are closer to each other than thousandths
 MOST_BITS = 13_000  # of a whole number, which Python writes with up to 4,300 digits
 PARTS = {"s": 1, "ms": 10 ** 3, "us": 10 ** 6, "ns": 10 ** 9}  # of a second
-IANA = re.compile("[A-Za-z]+(/[A-Za-z0-9_+-]+)*")  # how a time zone is named
 TRUTHS = {True: "true", False: "false"}
 SECONDS = 86_400  # of a day
 DAY = SECONDS * 10 ** 9  # nanoseconds
@@ -59,17 +58,6 @@ def inner_type(kind: Any) -> Any:
 def is_time(kind: Any) -> bool:
     """Whether a class of columns is that of date-times."""
     return isinstance(kind, pandas.DatetimeTZDtype) or isinstance(kind, numpy.dtype) and kind.kind == "M"
-
-
-def zone_name(zone: Any) -> str | None:
-    """The name of a time zone; of one without a name, as those of an offset, what it says of itself, in brackets."""
-    if zone is None:
-        return None
-    name = getattr(zone, "key", None) or getattr(zone, "zone", None)
-    if isinstance(name, str):
-        return name
-    own = str(zone)
-    return "UTC" if own in ("utc", "UTC", "tzutc()") and not zone.utcoffset(None) else f"({own})" if IANA.fullmatch(own) else own
 
 
 def times_of(series: pandas.Series) -> Cells:

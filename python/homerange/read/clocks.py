@@ -7,12 +7,13 @@ from pathlib import Path
 from typing import Iterable
 
 from ..errors import FrameError, one_line, refuse
+from ..units import OF_UTC
 from .call import as_arguments, split_table
 from .cells import is_time
 from .text import Column, Text, has_times, quoted, zones_in
 
 NAME = "clock.csv"
-UTC = re.compile("(Etc/)?(UTC|GMT[+-]?0?|UCT|Zulu|Universal|Greenwich)")  # names of that zone
+ZONE = re.compile("as by tz='([^']*)'")  # that of a title
 
 
 def refuse_other_clocks(text: Text, columns: Iterable[Column], folder: Path, program: str) -> None:
@@ -20,8 +21,8 @@ def refuse_other_clocks(text: Text, columns: Iterable[Column], folder: Path, pro
     tz = text.options.get("tz")
     for column in columns:
         zones = zones_in(column.values) if has_times(column.values) else {""}
-        are_utc = all(zone is not None and UTC.fullmatch(zone) for zone in zones)
-        if are_utc and not UTC.fullmatch(tz or "") or zones == {None} and tz is None:
+        are_utc = all(zone is not None and OF_UTC.fullmatch(zone) for zone in zones)
+        if are_utc and not OF_UTC.fullmatch(tz or "") or zones == {None} and tz is None:
             refuse_clock(text, column, are_utc, folder, program)
 
 
@@ -32,8 +33,9 @@ def refuse_clock(text: Text, column: Column, is_utc: bool, folder: Path, program
     if said is not None and not is_utc:
         refuse(said, "columns")
     if said is not None:
+        zone = (ZONE.findall(said) or ["Europe/Ljubljana"])[0]
         refuse(f"{said.partition(', and without')[0]}, and its moments are labelled UTC: if they are, name tz='UTC', and else give them the zone "
-               f"of their clock, as by {text_of_moments(own, column)}.tz_localize(None){'.dt' * (column.own is None)}.tz_localize('Europe/Ljubljana')",
+               f"of their clock, as by {text_of_moments(own, column)}.tz_localize(None){'.dt' * (column.own is None)}.tz_localize('{zone}')",
                "columns")
 
 

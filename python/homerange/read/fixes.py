@@ -10,9 +10,10 @@ from typing import TYPE_CHECKING, Any, Callable, Iterable, Sequence
 
 import pandas
 
+from ..arguments import says_ours
 from ..errors import refuse
+from ..units import IANA, zone_name
 from ..zones import crs_of, text_of_crs
-from .cells import IANA, zone_name
 from .changes import PLACES, Seen, left_since, own_titles, title_of_time
 
 if TYPE_CHECKING:
@@ -143,12 +144,14 @@ class Fixes(pandas.DataFrame):
             self.reading = reading_of_bound([each for each in several if isinstance(each, Fixes)], len(self))
         return self
 
+    @says_ours
     def left_out(self) -> pandas.DataFrame:
         """How many fixes of the table were left out when it was read, a row for each ``animal`` and ``reason``, with ``fixes``.
         The reasons are those of docs/TABLES.md."""
         rows = [(name, reason, count) for (name, reason), count in sorted(reading_of(self).left.items())]
         return pandas.DataFrame(rows, columns=["animal", "reason", "fixes"])
 
+    @says_ours
     def points(self) -> geopandas.GeoDataFrame:
         """The fixes as points, in their reference system. Refused is what ``home_range`` refuses of their columns. Wants geopandas."""
         try:

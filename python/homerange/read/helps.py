@@ -14,7 +14,8 @@ Refusal = re.Match[str]
 NUMBER = re.compile(" *[+-]?([0-9]+[.]?[0-9]*|[.][0-9]+)([eE][+-]?[0-9]+)? *")
 CLOCKS = {4: (2400, "%H%M"), 6: (240000, "%H%M%S")}  # clocks without their colons, by their digits: what is above them, and their form
 TYPES = ("gps-fix-type", "fix-type", "fixtype", "fix-status", "fixstatus", "type-of-fix")
-ORIGINS = {"days of Excel": "1899-12-30", "Julian days": "julian"}
+DAYS = {"days since 1970": (7305, 32874, "unix"), "days of Excel": (32874, 49310, "1899-12-30"),  # 1990 to 2059, to 2034, and 1993 to 2077
+        "modified Julian days": (49310, 80000, "1858-11-17"), "Julian days": (2_400_000, 2_500_000, "julian")}
 PARTS = {13: ("milliseconds", "ms"), 16: ("microseconds", "us"), 19: ("nanoseconds", "ns")}  # since 1970, by their digits
 SIGN_HELPS = {"%f": "%S has the decimals of seconds: leave .%f out", "%T": "%H:%M:%S stands for %T", "%F": "%Y-%m-%d stands for %F",
               "%R": "%H:%M stands for %R", "%e": "%d stands for %e", "%z": "a form has no offset: make moments of its texts, as by "
@@ -125,13 +126,16 @@ def kinds_said(column: Column) -> str:
 def of_count(found: Refusal, _: Mapping[str, Any], columns: Sequence[Column]) -> str:
     """A number that counts something else than seconds since 1970."""
     column = next((column for column in columns if one_line(column.title) == found[2]), None)
+    is_of_days = next((what for what, (first, last, _) in DAYS.items() if first <= float(found[3]) < last), None)
+    looks_so = is_of_days is not None and "days" in found[4]
+    said = f"{found[2]} is '{found[3]}', which looks like {is_of_days}" if looks_so else found[1]
     if column is None:
-        return found[0]
+        return found[0].replace(found[1], said)
     own = f"frame[{column.title!r}]"
     numbers = own if is_number(column.values) else f"pandas.to_numeric({own})"
-    origin = next((origin for what, origin in ORIGINS.items() if found[4].startswith(f"which looks like {what}")), None)
-    if origin is not None:
-        return f"{found[1]}: make moments of it, as by {own} = pandas.to_datetime({numbers}, unit='D', origin={origin!r}).dt.round('s')"
+    if is_of_days is not None:
+        what = "" if looks_so else f"if it is {is_of_days}, "
+        return f"{said}: {what}make moments of it, as by {own} = pandas.to_datetime({numbers}, unit='D', origin={DAYS[is_of_days][2]!r}).dt.round('s')"
     name, unit = PARTS.get(len(found[3]), (None, ""))
     if name is None:
         return found[0]
@@ -160,6 +164,12 @@ def of_offset(found: Refusal, _: Mapping[str, Any], __: Sequence[Column]) -> str
     return f"{found[0]}: the offset {found[1]}{hours} is that of '{f'Etc/GMT{sign}{hours}' if hours else 'UTC'}'"
 
 
+def of_bound(found: Refusal, options: Mapping[str, Any], _: Sequence[Column]) -> str:
+    """A moment that is none, with the option whose it is."""
+    name = next((name for name in ("since", "until") if options.get(name) == found[1]), None)
+    return found[0] if name is None else f"{name}: {found[0]}"
+
+
 # What the program says, and what is said in its place.
 HELPS: tuple[tuple[str, Callable[[Refusal, Mapping[str, Any], Sequence[Column]], str]], ...] = (
     ("((.*) is '(.*)' and not a time (?:such as 2024-05-01 00:30:04|of the form .*?))(?:: (?:if it is one|name its form), .*)?", of_time),
@@ -172,6 +182,7 @@ HELPS: tuple[tuple[str, Callable[[Refusal, Mapping[str, Any], Sequence[Column]],
     ("((.*) is '([0-9.]+)', (which (?:looks like|is no second since 1970).*)): write a time such as .*", of_count),
     ("there is no ([^:,]*)", of_none), ("time-format is '(.*)', which is no form of a day.*", of_form),
     ("tz='(?:UTC|GMT)?([+-])0?([0-9]{1,2})(?::?00)?' is no time zone such as .*", of_offset),
+    ("'(.*)' is no time in .*", of_bound), ("( *) is no zone as 33N", lambda found, *_: f"zone={found[1]!r} is no zone as 33N"),
     ("EPSG:.* is no zone as 33N", lambda found, *_: f"{found[0]}: a reference system is named by crs"),
     ("from(: .* is none of .*)", lambda found, *_: f"from_{found[1]}"))
 

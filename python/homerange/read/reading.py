@@ -134,7 +134,7 @@ def read_table(
     own, options = frame_given(x), {**options, "tz": zone_text(options.get("tz"))}
     words_of_options({**options, "crs": None})  # what cannot be right is refused before anything is looked for
     if isinstance(own, (str, os.PathLike)):
-        return read_file(check_no_pipe(path_of(own, "path")), options, folder, find_split_program(program))
+        return read_file(check_no_pipe(path_of(own, "x")), options, folder, find_split_program(program))
     if not isinstance(own, pandas.DataFrame):
         refuse(f"a {type(x).__name__} is neither a path nor a data frame with a row for each fix: {help_for_table(own)}")
     return read_frame(own, options, folder, find_split_program(program), has_columns)
@@ -150,7 +150,9 @@ def help_for_table(x: Any) -> str:
         return f"bind those that are in it, as by pandas.concat({'x.values()' if named else 'x'}, ignore_index=True){named}"
     if isinstance(x, DataFrameGroupBy):
         return "take the frame that was grouped, x.obj: ranges are of each animal anyway, and by makes those of groups"
-    return f"make it one, as by {'to_pandas()' if hasattr(x, 'to_pandas') else 'pandas.DataFrame(..)'}"
+    if isinstance(x, pandas.Series) and hasattr(x, "geom_type"):
+        return "make it one, as by geopandas.GeoDataFrame({'animal': .., 'time': ..}, geometry=x)"
+    return f"make it one, as by {'x.to_pandas()' if hasattr(x, 'to_pandas') else 'pandas.DataFrame(..)'}"
 
 
 def refuse_part(x: Any) -> None:

@@ -13,11 +13,12 @@ import pandas
 
 from ..errors import FrameError, one_line, refuse
 from ..record import Record
+from ..units import IANA
 from .call import as_arguments
-from .cells import IANA, cell_of, cells_of, is_missing, is_time, odd_row, row_named
+from .cells import cell_of, cells_of, is_missing, is_time, odd_row, row_named
 from .helps import day_of_all, with_help
 from .systems import TITLES_OF_DEGREES
-from .text import NAME, Column, Text, has_times, in_own_words, titles_named, zones_in
+from .text import NAME, Column, Text, has_times, in_own_words, titles_named, with_rename, zones_in
 
 LOST_DIGITS = "a number that has lost digits"
 HELP_DIGITS = "read its column as text, as by pandas.read_csv(.., dtype=str)"
@@ -40,11 +41,12 @@ def refuse_text(text: Text, fault: FrameError) -> NoReturn:
     """Refuses a text as the program did, with the row by its label, and with options as arguments. That of the program may name
     the text, which nobody knows, or the class of a cell."""
     said = str(fault).removeprefix(f"{NAME}: ")
-    refuse_form(text, [column for column in text.columns if said.startswith(f"{one_line(column.title)} is '")] if fault.kind == "time" else ())
+    named = [column for column in text.columns if said.startswith(f"{one_line(column.title)} is '")] if fault.kind == "time" else []
+    refuse_form(text, named, " of the form " in said)
     odd = [own for own in odd_cells(text.columns if "<" in said else ()) if f"<{own.kind}>" in said]
     if odd:
         refuse_class(text, [own for own in odd if own.title in said] or odd, fault.kind)
-    line = in_own_words(as_arguments(with_remedy(of_frame(said), text), fault.kind), text)
+    line = with_rename(in_own_words(as_arguments(with_remedy(of_frame(said), text), fault.kind), text), text)
     where = "" if fault.record is None else f"{row_named(text.labels, fault.record - 1)}: "
     raise FrameError(f"{where}{line}", fault.kind, fault.record)
 
@@ -86,16 +88,23 @@ def help_for_lengths(title: str, text: Text) -> str:
             f"'second' in its place{', which time names' if named else ''}")
 
 
-def refuse_form(text: Text, columns: Iterable[Column]) -> None:
-    """Refuses a form of times for columns of moments, which have one form, unless several columns are joined."""
+def refuse_form(text: Text, columns: Iterable[Column], is_of_maker: bool = False) -> None:
+    """Refuses a form of times for columns of moments, which have one form, unless several columns are joined; so is one that a maker has."""
     own = next((column for column in columns if has_times(column.values)), None)
     if own is not None and text.options.get("time_format") is not None and len(titles_named(text.options.get("time"))) < 2:
         refuse(f"time_format is for texts, and {in_own_words(one_line(own.title), text)!r} has moments: leave it out")
+    if own is not None and is_of_maker and text.options.get("from_") is not None:
+        title = in_own_words(own.title, text)
+        refuse(with_rename(f"from_={text.options['from_']!r} has a form for texts, and '{one_line(title)}' has moments: leave from_ out, and name "
+                           f"columns, as by animal=.., time={title!r}", text))
 
 
 def with_moments_alone(said: str, text: Text) -> str:
     """What the program says of days and times that it joins, or would join, where they are more than days and clocks."""
     both, named = re.search("'([^']*)' and column [0-9]+ '([^']*)' both fit the time: ", said), titles_named(text.options.get("time"))
+    if text.options.get("from_") is not None:  # whose columns only the program knows
+        start = said.partition(" is '")[0].join("  ")
+        named = [column.title for column in text.columns if f" {one_line(column.title)} " in start]
     titles = both.groups() if both else named if len(named) > 1 else ()
     own = [column for column in text.columns if one_line(column.title) in titles]
     moments = [column for column in own if has_times(column.values)]
@@ -186,8 +195,9 @@ def refuse_unnamed(text: Text) -> None:
     """Refuses a table without a column of the animal of which the time was found by its class alone, or whose index may have the
     animals: texts that repeat, without a name."""
     if text.finds_time:
-        refuse(f"no column has a usual title, neither for the animal nor for the time: name them, as by animal=.. and "
-               f"time={text.options['time']!r}", "columns")
+        own = text.options["time"] if text.renamed is None else text.renamed[1]
+        refuse(with_rename(f"no column has a usual title, neither for the animal nor for the time: name them, as by animal=.. and time={own!r}",
+                           text), "columns")
     labels = text.labels
     for at, name in enumerate(labels.names):
         own = labels.get_level_values(at)

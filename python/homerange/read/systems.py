@@ -11,7 +11,7 @@ import numpy
 import pandas
 from numpy.typing import NDArray
 
-from ..errors import refuse
+from ..errors import refuse, shown
 from ..zones import REFUSED, TOLD, Scales, scales_of_crs, text_of_crs, zone_of, zone_of_crs
 from .cells import row_named
 
@@ -48,8 +48,8 @@ def crs_named(crs: Any, helps: str | None = None) -> Any:
     # A text that is neither a code nor a definition is a name, of which pyproj takes one that has it as a part.
     is_name = isinstance(crs, str) and not re.search("[:+=\\[{]|^[0-9]+$", crs)
     if found is None or is_name and found.name.lower() != crs.lower():
-        helps = f": a zone is named by zone={crs!r}" if isinstance(crs, str) and re.fullmatch("[0-9]{1,2} ?[NSns]", crs) else ""
-        refuse(f"crs={crs!r} names no reference system{helps}", "crs")
+        helps = f": a zone is named by zone={shown(crs)}" if isinstance(crs, str) and re.fullmatch("[0-9]{1,2} ?[NSns]", crs) else ""
+        refuse(f"crs={shown(crs)} names no reference system{helps}", "crs")
     if found.is_geographic:
         refuse_crs(f"the CRS {found.name} has longitude and latitude, which are no plane coordinates: "
                    f"{helps or 'name their columns by lon and lat, without crs'}")

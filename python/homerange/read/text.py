@@ -14,7 +14,8 @@ import numpy
 import pandas
 
 from ..errors import fault_of_text, one_line, refuse
-from .cells import IANA, Cells, are_like_thousands, cells_of, inner_type, is_missing, is_time, zone_name
+from ..units import IANA, zone_name
+from .cells import Cells, are_like_thousands, cells_of, inner_type, is_missing, is_time
 from .systems import TITLES, TITLES_OF_DEGREES, columns_of_points, crs_named, is_local, options_of
 from .widths import missing_as_written
 
@@ -22,6 +23,7 @@ if TYPE_CHECKING:
     import geopandas
 
 CELLS = 2 ** 18  # that are written together
+BETWEEN = re.compile("[,|]")  # signs between titles that an option names
 NAME = "fixes.csv"
 INDEX = "index"  # what pandas calls the one level of an index that has no name
 COORDINATES = ("easting", "northing", "lon", "lat")
@@ -234,7 +236,11 @@ def with_time_named(text: Text, refusal: str) -> Text | None:
         odd = next((column for column in text.columns if has_times(column.values) and own.startswith(f"{column.title.strip()} is ")), None)
     if odd is None or text.renamed is not None:
         is_only = "no column has a usual title for the time" in refusal and text.options.get("time") is None and len(moments) == 1
-        return text._replace(options={**text.options, "time": moments[0].title}, finds_time=True) if is_only else None
+        if not is_only:
+            return None
+        text, odd = text._replace(finds_time=True), moments[0]
+        if not BETWEEN.search(odd.title):
+            return text._replace(options={**text.options, "time": odd.title})
     title = free_title("datetime", text.columns)
     columns = [column._replace(title=title) if column is odd else column for column in text.columns]
     return text._replace(columns=columns, options={**text.options, "time": title}, renamed=(title, odd.title))
@@ -246,6 +252,18 @@ def in_own_words(said: str, text: Text) -> str:
         return said
     title, own = text.renamed
     return re.sub(rf"(?<![\w-]){re.escape(title)}(?![\w-])", one_line(own).replace("\\", r"\\"), said)
+
+
+def with_rename(said: str, text: Text) -> str:
+    """What is said, with what is to be done before where it names a column for an option which takes its title for several."""
+    titles = [own for own in (text.renamed[1] if text.renamed else "", *(column.title for column in text.columns)) if BETWEEN.search(own)]
+
+    def is_named(title: str) -> bool:
+        own, options = re.escape(one_line(title)), "[a-z]" if "|" in title else r"\b(?:animal|time)"
+        return re.search(rf"{options}=(['\"])(?:(?!\1).)*{own}|'{own}'.*COLUMN'", said) is not None
+
+    odd = next(filter(is_named, titles), None)
+    return said if odd is None else f"{said}; rename '{one_line(odd)}' before, since a comma or | stands between titles"
 
 
 def is_number(values: pandas.Series | pandas.Index) -> bool:

@@ -10,7 +10,7 @@ from decimal import Decimal
 from numbers import Integral, Real
 from typing import Any, Callable, Iterable, Mapping
 
-from ..errors import BYTES, fault_of_text, one_line, refuse, truth_of
+from ..errors import fault_of_text, is_several, one_line, refuse, shown, truth_of
 
 LONGEST_WORD = 2 ** 16  # bytes of a word; the system takes some more
 TAKEN = "is not a second or more in h, min or s, such as '24h', '30min' or '90s'"  # what a length of time is that is none
@@ -46,9 +46,9 @@ ELSEWHERE.update({name: f"here it is {own}" for own, names in OURS.items() for n
 def text_of(value: Any, option: str) -> str:
     """A text, of one line where it is a name."""
     if not isinstance(value, str):
-        refuse(f"{option}={value!r} is no text" + (": write such as zone='33N'" if option == "zone" else ""))
+        refuse(f"{option}={shown(value)} is no text" + (": write such as zone='33N'" if option == "zone" else ""))
     if option == "name" and one_line(value) != value:
-        refuse(f"{option}={value!r} has a control character")
+        refuse(f"{option}={shown(value)} has a control character")
     return value
 
 
@@ -61,7 +61,7 @@ def number_of(value: Any, option: str) -> str:
         number = math.nan
     if not 0 <= number < math.inf:
         unit = " of metres a second" if option == "max_speed" else ""
-        refuse(f"{option} is {value!r} and not a number{unit} from 0")
+        refuse(f"{option} is {shown(value)} and not a number{unit} from 0")
     return value if isinstance(value, str) else digits_of(number)
 
 
@@ -79,7 +79,7 @@ def digits_of(number: float) -> str:
 def count_of(value: Any, option: str) -> str:
     """A whole number from 0."""
     if not isinstance(value, Integral) or isinstance(value, bool) or not 0 <= int(value) < 2 ** 40:
-        refuse(f"{option} is {value!r} and not a number from 0")
+        refuse(f"{option} is {shown(value)} and not a number from 0")
     return str(int(value))
 
 
@@ -91,11 +91,11 @@ def length_of(value: Any, option: str) -> str:
     else:
         seconds = seconds_of(value)
     if not 1 <= seconds < 2 ** 40:
-        refuse(f"{option}={value!r} {TAKEN}")
+        refuse(f"{option}={shown(value)} {TAKEN}")
     if isinstance(value, str):
         return value
     if abs(seconds - round(seconds)) > SLACK:
-        refuse(f"{option}={value!r} is no whole number of seconds: write such as '90min' or '5s'")
+        refuse(f"{option}={shown(value)} is no whole number of seconds: write such as '90min' or '5s'")
     return f"{round(seconds)}s"
 
 
@@ -119,10 +119,10 @@ def bound_of(value: Any, option: str) -> str:
         return str(value)
     if type(value).__name__ in ("NaTType", "datetime64"):
         refuse(f"{option} is missing, and a moment is wanted: leave {option} out where none is meant")
-    if hasattr(value, "__len__") and not isinstance(value, (*BYTES, Mapping)):
+    if hasattr(value, "__len__") and is_several(value) and not isinstance(value, Mapping):
         refuse(f"{option} has {len(value)} values, and one moment is wanted, such as '2024-05-01'")
     if not isinstance(value, date) or value != value:
-        refuse(f"{option}={value!r} is neither a text such as '2024-05-01' nor a date")
+        refuse(f"{option}={shown(value)} is neither a text such as '2024-05-01' nor a date")
     if isinstance(value, datetime) and value.utcoffset() is not None:
         return f"{value.astimezone(timezone.utc).isoformat().removesuffix('+00:00')}Z"
     return value.isoformat()
@@ -132,7 +132,7 @@ def words_of(value: Any, option: str) -> str:
     """One word or number, several between commas, or several words and numbers."""
     if isinstance(value, (str, Real)):
         return word_of(value, option)
-    if isinstance(value, (*BYTES, Mapping)) or not isinstance(value, Iterable):
+    if isinstance(value, Mapping) or not is_several(value):
         refuse(f"{option}={type(value).__name__} is no name: a text, or several, is wanted")
     return listed([word_of(word, option) for word in value], option)
 
@@ -153,7 +153,7 @@ def columns_of(value: Any, option: str) -> str:
     if isinstance(value, date) or hasattr(value, "dtype"):
         refuse(f"{option} has values, and the title of their column is wanted, in quotes, as by {option}='COLUMN'")
     if not isinstance(several, (list, tuple)) or not all(isinstance(title, str) for title in several):
-        refuse(f"{option}={value!r} is no name of a column: a text, or several, is wanted")
+        refuse(f"{option}={shown(value)} is no name of a column: a text, or several, is wanted")
     return value if isinstance(value, str) else listed(several, option)
 
 
@@ -205,4 +205,4 @@ def said(text: str, what: str) -> str:
     fault = fault_of_text(text)
     if fault is None and len(text.encode("utf-8")) > LONGEST_WORD:
         fault = f"has more than {LONGEST_WORD} bytes"
-    return text if fault is None else refuse(f"{what} is {text!r}, which the program cannot be told, since it {fault}")
+    return text if fault is None else refuse(f"{what} is {shown(text)}, which the program cannot be told, since it {fault}")

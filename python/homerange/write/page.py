@@ -12,7 +12,7 @@ from typing import Any
 
 from ..about import Words
 from ..arguments import says_ours
-from ..errors import FAULTS, ProgramError, check_place, files_as_said, one_line, path_of, refuse, truth_of
+from ..errors import FAULTS, ProgramError, check_place, files_as_said, one_line, path_of, refuse, shown, truth_of
 from ..program import PAGE as PROGRAM, Program, checksum_of, find_page_program, find_program, program_of
 from ..ranges.home import HomeRanges, check_ranges, check_whole
 from ..read.reading import tell
@@ -38,7 +38,7 @@ def words_typed(title: str | None = None, study: str | None = None, species: str
         if text is not None and not is_word(text):
             refuse(f"{name}={text!r} is no text in UTF-8 without a zero byte: mend it")
     if made is not None and (not isinstance(made, date) or made != made):
-        refuse(f"made={made!r} is no date")
+        refuse(f"made={shown(made)} is no date")
     return Words(title=title or None, study=study or None, species=species or None, by=by or None, boundary=reserve_name or None,
                  day=made.strftime("%Y-%m-%d").zfill(10) if made else None)
 

@@ -7,7 +7,7 @@ from typing import TYPE_CHECKING, Any, Iterable, Literal, Sequence, overload
 import pandas
 
 from ..arguments import says_ours
-from ..errors import refuse, truth_of
+from ..errors import refuse, shown, truth_of
 from ..units import UNITS
 from .formats import Clock
 from .plot_map import FOOT, Map, frame_of, rings_over, said_of_unseen, shapes_of
@@ -170,7 +170,7 @@ def plot_curve(
     all animals; where ends lie close together some have no room.
     """
     if not isinstance(by, str) or by not in ("fix", "date"):
-        refuse(f"by={by!r} is neither 'fix' nor 'date'")
+        refuse(f"by={shown(by)} is neither 'fix' nor 'date'")
     share, facets = truth_of(share, "share"), truth_of(facets, "facets")
     check_axes(ax, facets)
     drawn = drawn_animals(ranges, animals, colours)
@@ -223,7 +223,7 @@ def curve_panels(
 def check_over_name(over: Any, name: Any, facets: bool) -> None:
     """Refuses what is no name of a boundary, and one that nothing would show."""
     if name is not None and not isinstance(name, str):
-        refuse(f"over_name={name!r} is no text")
+        refuse(f"over_name={shown(name)} is no text")
     if name and over is None:
         refuse("over_name is the name of no boundary: give its shape as over")
     if name and facets:

@@ -34,7 +34,7 @@ def shapes_of(ranges: HomeRanges, drawn: Sequence[Drawn], levels: Sequence[int],
 
 def rings_over(ranges: HomeRanges, over: Any) -> list[list[Point]]:
     """The rings of a boundary, in the reference system of the ranges."""
-    return [] if over is None else rings_of(boundary_of(over, ranges.crs, ranges.box))
+    return [] if over is None else rings_of(boundary_of(over, ranges.crs, ranges.box, "over"))
 
 
 def said_of_unseen(rings: Sequence[Sequence[Point]], view: Box) -> list[str]:

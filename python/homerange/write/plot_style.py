@@ -6,7 +6,7 @@ from __future__ import annotations
 from math import ceil
 from typing import Any, Iterable, Mapping, NamedTuple, Sequence
 
-from ..errors import BYTES, one_line, refuse
+from ..errors import is_several, one_line, refuse, shown
 from ..ranges.home import HomeRanges, check_ranges, refuse_animal
 from ..units import UNITS
 from .formats import with_sign
@@ -35,8 +35,8 @@ class Drawn(NamedTuple):
 def drawn_animals(ranges: HomeRanges, animals: Iterable[str] | str | None, colours: Any) -> list[Drawn]:
     """The animals that are wanted, in the order of the ranges, with the colours of the user or their own."""
     check_ranges(ranges)
-    if animals is not None and (isinstance(animals, BYTES) or not isinstance(animals, Iterable)):
-        refuse(f"animals={animals!r} are no names")
+    if animals is not None and not isinstance(animals, str) and not is_several(animals):
+        refuse(f"animals={shown(animals)} are no names")
     wanted = ranges.animals if animals is None else [animals] if isinstance(animals, str) else list(animals)
     missing = [name for name in wanted if not isinstance(name, str) or name not in ranges.animals]
     if not wanted:

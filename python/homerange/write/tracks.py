@@ -13,7 +13,6 @@ from ..report import Report
 from .evidence import TRACKS, copy_files, copy_tracks
 
 RECORD = "split.txt"
-CHOSEN = "the fixes are not as they were read: what was left out before is neither in the folder nor on its page"
 COUNTS = (b"left,", b"track,", b"tool,")  # how the lines of a record begin that stand behind what was said
 
 
@@ -55,13 +54,20 @@ def put_known(ranges: HomeRanges, folder: Path) -> dict[str, str]:
     return {name: name for name in ranges.animals}
 
 
+def chosen_since(tracks: Tracks) -> str:
+    """What is said of fixes that were changed since they were read."""
+    gone = sum(count for (_, reason), count in tracks.reasons.items() if reason == "chosen")
+    taken = f"{gone} of them {'was' if gone == 1 else 'were'} taken away since, and " if gone else ""
+    return f"the fixes are not as they were read: {taken}what was left out before is neither in the folder nor on its page"
+
+
 def record_of(tracks: Tracks, record: bytes) -> bytes:
     """The record of tracks, in which it is said where they are of fixes that were changed since they were read."""
     if not tracks.is_again:
         return record
     lines = record.splitlines(keepends=True)
     at = next((at for at, line in enumerate(lines) if line.startswith(COUNTS)), len(lines))
-    return b"".join([*lines[:at], f"said,{CHOSEN}\n".encode(), *lines[at:]])
+    return b"".join([*lines[:at], f"said,{chosen_since(tracks)}\n".encode(), *lines[at:]])
 
 
 def renamed(report: Report, names: Mapping[str, str]) -> Report:
@@ -72,5 +78,5 @@ def renamed(report: Report, names: Mapping[str, str]) -> Report:
 
 def said_of_tracks(tracks: Tracks, names: Mapping[str, str]) -> list[str]:
     """What is said of fixes that were changed since they were read, and of animals that have other names in files."""
-    changed = [CHOSEN] if tracks.is_again else []
+    changed = [chosen_since(tracks)] if tracks.is_again else []
     return [*changed, *(f"animal '{name}' is named {own}" for name, own in names.items() if name != own)]

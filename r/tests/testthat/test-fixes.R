@@ -248,7 +248,7 @@ test_that("what is not known of an animal with another name is missing, and stay
     page <- paste(readLines(path, encoding = "UTF-8"), collapse = "")
     cells <- regmatches(page, gregexpr("data-field=\"records\">[^<]*", page))[[1]]
     expect_identical(sub(".*>", "", cells), format(table(factor(fixes$animal, names(ranges)))[], trim = TRUE), ignore_attr = TRUE)
-    expect_match(page, "the fixes are not as they were read: what was left out before is neither in the folder nor on its page", fixed = TRUE)
+    expect_match(page, "the fixes are not as they were read: (1 of them was taken away since, and )?what was left out before is neither in the folder nor on its page")
   }
   whole <- quietly(read_fixes(table, zone = "33N"))  # of which nothing was left out
   expect_identical(summary(home_range(rename(whole, "fox", "wolf"), 100))$left_out, c(0, 0))

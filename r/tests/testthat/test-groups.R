@@ -168,7 +168,8 @@ test_that("what is no group is refused", {
   refused(data.frame(a = 1:80, b = 2), "by is a table, and a value for each row is wanted: take one column, or join several, as by paste")
   refused(function(own) own[c("animal", "time")], "by is a table, and a value for each row is wanted")
   refused(matrix(0, 80, 1), "by is a table, and a value for each row is wanted")
-  refused(as.list(1:80), "by = list is none of \"year\", \"month\", \"season\", no column of the fixes, no value for each of them")
+  refused(as.list(1:80), "by is a list, and a vector is wanted: unlist(..) makes one of it")
+  refused(list(1, NULL), "by = list is none of \"year\", \"month\", \"season\", no column of the fixes, no value for each of them")
   refused(replace(rep("a", 80), 5, NA), "row 5: by has no group: leave fixes without a group out")
   seconds <- walk("a", 9, 1)
   expect_error(quietly(home_range(seconds, by = "month")), "by = \"month\": seconds have no calendar, since none is of the years 1973 to 2262: read a table with date-times of these",

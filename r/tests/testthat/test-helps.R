@@ -154,6 +154,8 @@ test_that("times that are counted otherwise are refused with what makes moments 
   seconds <- as.numeric(moments)
   cases <- list(
     list(c(45352.5, 45352.5 + 4805 / 86400, 45353 + 1 / 86400), "which looks like days of Excel: make moments of it"),
+    list(c(19783.5, 19783.5 + 4805 / 86400, 19784 + 1 / 86400), "which looks like days since 1970: make moments of it"),
+    list(c(60370.5, 60370.5 + 4805 / 86400, 60371 + 1 / 86400), "which looks like modified Julian days: make moments of it"),
     list(c(2460371, 2460371 + 4805 / 86400, 2460371.5 + 1 / 86400), "which looks like Julian days: make moments of it"),
     list(seconds * 1e3, paste("which looks like milliseconds, or a date without signs between: if it is milliseconds since 1970, make moments",
                               "of it")),
@@ -170,6 +172,60 @@ test_that("times that are counted otherwise are refused with what makes moments 
   x <- cbind(places, time = cases[[1]][[1]])
   eval(parse(text = sub("^.* as by ", "", said_of(x, "row 1: ", tz = "Europe/Vienna"))))
   expect_identical(seconds_of_fixes(x, tz = "Europe/Vienna"), seconds - 3600)  # days of a spreadsheet are of the clock that tz names
+})
+
+test_that("days since 1970 are refused with what makes days of them", {
+  skip_without_split()
+  cases <- list(list(19783:19785, "which looks like days since 1970: make days of it"),
+                list(12478:12480, "which is no second since 1970 (1990 to 2286): if it is days since 1970, make days of it"))
+  for (case in cases) {
+    x <- cbind(places, time = case[[1]])
+    call <- said_of(x, paste0("row 1: time is '", case[[1]][1], "', ", case[[2]], ", as by "))
+    expect_identical(call, "x[[\"time\"]] <- as.Date(x[[\"time\"]], origin = \"1970-01-01\")")
+    eval(parse(text = call))
+    expect_identical(seconds_of_fixes(x), 86400 * case[[1]])
+  }
+  path <- file.path(local_folder(), "days.csv")
+  writeLines(c("animal,time,easting,northing", "a,19783,500010,5000020"), path)
+  said_of(path, paste0(path, ": record 1: time is '19783', which looks like days since 1970: write a time such as"))
+})
+
+test_that("titles with a comma are to be renamed", {
+  skip_without_split()
+  ends <- function(x, text, ...) expect_match(said_of(x, "", ...), paste0("\\Q", text, "\\E$"), perl = TRUE)
+  before <- function(title) paste0("; rename '", title, "' before, since a comma or | stands between titles")
+  ends(cbind(places, date = "2024-03-01", "clock, local" = c("01:05", "02:00", "03:00")), before("clock, local"))
+  x <- cbind(places, "date, time" = moments)
+  expect_identical(seconds_of_fixes(x), as.numeric(moments))
+  ends(x, ": rename columns whose titles have a comma or |", time = "date, time")
+  names(x)[1] <- "beast"
+  ends(x, paste0("as by animal = .. and time = \"date, time\"", before("date, time")))
+  names(x)[4] <- "when"
+  expect_identical(seconds_of_fixes(x, animal = "beast", time = "when"), as.numeric(moments))
+})
+
+test_that("moments under the titles of a maker are refused with what helps, and days beside clocks are read", {
+  skip_without_split()
+  x <- data.frame(id = 7, Latitude = 45 + 0:2 / 10, Longitude = 14 + 0:2 / 10)
+  lotek <- cbind(`names<-`(x, c("Device ID", "Latitude", "Longitude")), "Date & Time [GMT]" = moments)
+  refused(lotek, paste("from = \"lotek\" has a form for texts, and 'Date & Time [GMT]' has moments: leave from out, and name columns, as by",
+                       "animal = .., time = \"Date & Time [GMT]\""), "option", from = "lotek")
+  expect_identical(seconds_of_fixes(lotek, animal = "Device ID", time = "Date & Time [GMT]"), as.numeric(moments))
+  vectronic <- cbind(`names<-`(x, c("CollarID", "Latitude", "Longitude")), AnimalID = "", UTC_Date = trunc(moments, "days"), UTC_Time = format(moments, "%H:%M:%S"))
+  expect_identical(seconds_of_fixes(vectronic, from = "vectronic"), as.numeric(moments))
+  vectronic$UTC_Date <- moments
+  expect_match(said_of(vectronic, "", from = "vectronic"), ": UTC_Date has moments: name it alone, as by time = \"UTC_Date\"$")
+})
+
+test_that("moments labelled UTC get the zone of their title", {
+  skip_without_split()
+  zones <- c("time (Europe/Vienna)" = "Europe/Vienna", "time (UTC+2)" = "Etc/GMT-2", "local time" = "Europe/Ljubljana")
+  for (title in names(zones)) {
+    x <- `names<-`(cbind(places, moments), c(names(places), title))
+    own <- eval(parse(text = sub("^.* as by ", "", said_of(x, ""))))
+    expect_identical(attr(own, "tzone"), zones[[title]])
+    expect_identical(format(own), format(moments))
+  }
 })
 
 test_that("dates without signs are refused with their form", {
@@ -266,6 +322,10 @@ test_that("levels that are texts of per cent, and groups in a list, are said as 
   refused(": it is a text, so write c(50, 95) without quotes", levels = "50%, 95%")
   refused("and not factor: it is a text, so write 95 without quotes", levels = factor("95"))
   refused("by is a list of 1 text: write by = \"sex\"", by = list("sex"))
+  refused("by is a list, and a vector is wanted: unlist(..) makes one of it", by = as.list(table$sex))
+  expect_identical(length(quietly(home_range(table, by = unlist(as.list(table$sex))))), 1L)
+  table$group <- I(as.list(table$sex))
+  refused("by is a list, and a vector is wanted: unlist(..) makes one of it", by = "group")
   refused("by is a list of 1 vector, and one vector is wanted: take it, as by by[[1]]", by = list(table$sex))
   refused("by is a list of 2 vectors, and one vector is wanted: join them, as by paste(by[[1]], by[[2]])", by = list(table$sex, table$sex))
 })

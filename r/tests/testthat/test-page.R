@@ -147,7 +147,8 @@ test_that("a page of fixes that were changed says so", {
   fixes <- quietly(read_fixes(deer))
   ranges <- quietly(home_range(fixes[-(1:5), ]))
   expect_message(page <- page_of(ranges), "the fixes are not as they were read", class = "homerange_note")
-  expect_match(page, "\u201cthe fixes are not as they were read: what was left out before is neither in the folder nor on its page\u201d", fixed = TRUE)
+  expect_match(page, paste("\u201cthe fixes are not as they were read: 5 of them were taken away since, and what was left out before is neither in",
+                           "the folder nor on its page\u201d"), fixed = TRUE)
 })
 
 test_that("of files without a record it is not known what was left out", {

@@ -154,7 +154,7 @@ test_that("what is no table, and columns of further classes, are refused with th
   }
   if (requireNamespace("nanotime", quietly = TRUE)) {
     nano <- transform(table, time = nanotime::as.nanotime(table$time))
-    refused(nano, "time is of the class nanotime, of which no cell is known: as.POSIXct(x) makes times of it")
+    refused(nano, "time is of the class nanotime, of which no cell is known: as.POSIXct(x, tz = \"UTC\") makes times of it")
     nano$time <- as.POSIXct(nano$time, tz = "UTC")
     expect_identical(quietly(read_fixes(nano))$time, table$time)
   }
