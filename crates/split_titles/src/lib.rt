@@ -3,11 +3,11 @@
 #![tactic(auto)]
 
 mod axes;
+mod beside;
 mod brackets;
 mod clock_words;
 mod clocks;
 mod columns;
-mod degrees_beside;
 pub mod dictionary;
 mod fault;
 mod find;
@@ -32,8 +32,8 @@ mod unknown;
 mod usual;
 mod words;
 
+pub use beside::degrees_beside;
 pub use columns::{Columns, Marks, Pair, is_read, not_read};
-pub use degrees_beside::degrees_beside;
 pub use fault::{FaultKind, PassedOver, TitleFault};
 pub use find::find_columns;
 pub use halves::{clock_of_half, half_named, is_half_of_day, is_of_afternoon, is_of_halves};
