@@ -148,11 +148,11 @@ with_moments <- function(frame, refusal) {
   is_unnamed <- grepl("no column has a usual title for the time", refusal$text, fixed = TRUE) && is.null(frame$given[["time"]])
   if (is_unnamed && length(frame$moments) == 1) {
     frame$finds_time <- TRUE
-    if (grepl("[,|]", frame$moments)) refused <- frame$moments else frame$given[["time"]] <- frame$moments
+    refused <- frame$moments
+    frame$given[["time"]] <- refused
+    if (!grepl("[,|]", refused)) return(frame)
   }
-  if (isTRUE(frame$finds_time) && !length(refused)) {
-    return(frame)
-  } else if (length(refused) && is.null(frame$renamed)) {
+  if (length(refused) && is.null(frame$renamed)) {
     frame$renamed <- c(from = refused[[1]], to = free_title("datetime", names(frame$parts)))
     names(frame$parts)[names(frame$parts) == refused[[1]]] <- frame$renamed[["to"]]
     frame$given[["time"]] <- frame$renamed[["to"]]

@@ -118,7 +118,7 @@ test_that("what a refusal says of a column makes it one that is read", {
   table <- cbind(with_column("time", hours), day = as.Date("2024-05-01"))
   expect_identical(quietly(read_fixes(table, time = c("day", "time")))$time, as.POSIXct("2024-05-01", tz = "UTC") + 3600 * 0:3)
   wanted <- 562000 + c(0, 1, 2, 3)
-  refused(read_fixes(with_column("easting", as.list(wanted))), "make text, numbers or times of it", "number")
+  refused(read_fixes(with_column("easting", as.list(wanted))), "do.call(c, x) makes a vector of it", "number")
   expect_identical(quietly(read_fixes(with_column("easting", do.call(c, as.list(wanted)))))$easting, wanted)
   pair <- cbind(wanted, 5134000)
   refused(read_fixes(with_column("easting", pair)), "make each of its columns one of the table, as by cbind(table, x)", "number")
