@@ -3,7 +3,6 @@
 use crate::cells::push_count;
 use crate::reasons::{Cause, phrase};
 use crate::shown::{Shown, Source, falling_levels, source_words};
-use memchr::memmem;
 use page_record::{Given, Record};
 use page_text::{between, push_escaped, push_fixes};
 use range_plane::Scale;
@@ -143,17 +142,30 @@ pub fn push_left_out(
     push_causes(text, totals)
 }
 
-// Whether words stand in a line.
-fn has(line: &[u8], words: &[u8]) -> bool {
-    memmem::find(line, words).is_some()
+// A line behind the number with which it begins; empty where it begins with none.
+fn behind_number(line: &[u8]) -> &[u8] {
+    let length = line.iter().position(|byte| !byte.is_ascii_digit());
+    match line.split_at_checked(length.unwrap_or(0)) {
+        Some((number, rest)) if !number.is_empty() => rest,
+        _ => b"",
+    }
 }
 
-// Whether a line is on one animal, on columns or on files, which the page has elsewhere or not at all.
+// Whether a line says into which files fixes went.
+fn is_of_files(line: &[u8]) -> bool {
+    match behind_number(line).strip_prefix(b" fixes of ") {
+        Some(rest) => behind_number(rest).starts_with(b" animals are in "),
+        None => false,
+    }
+}
+
+// Whether a line is on one animal, on columns or on files, which the page has elsewhere or not at all. Its start tells: names and
+// titles that stand in lines are those of strangers.
 fn is_passed(line: &[u8]) -> bool {
-    has(line, b"records of ")
-        || has(line, b"columns: ")
-        || has(line, b"not read: ")
-        || has(line, b" animals are in ")
+    line.starts_with(b"columns: ")
+        || line.starts_with(b"not read: ")
+        || behind_number(line).starts_with(b" records of ")
+        || is_of_files(line)
 }
 
 // Appends a line that was said, in quotes.

@@ -1,8 +1,8 @@
 // Sentences on what was left out and said, options and checksums, as the makers in Python write them.
 
 use crate::cases::{
-    LEFT, NOTHING_LEFT, OPTIONS, SAID, SAID_OF_FOURTEEN, SUMS, SUMS_OF_DATA, UNUSED_LEFT, VERIFY,
-    WITHOUT_RANGE, WITHOUT_RANGE_OF_MANY,
+    LEFT, NOTHING_LEFT, OPTIONS, SAID, SAID_OF_FOURTEEN, SAID_OF_NAMED, SUMS, SUMS_OF_DATA,
+    UNUSED_LEFT, VERIFY, WITHOUT_RANGE, WITHOUT_RANGE_OF_MANY,
 };
 use page_record::read_record;
 use page_sections::{
@@ -44,12 +44,18 @@ fn is_written(text: Result<Vec<u8>, AllocError>, expected: &str) -> bool {
 }
 
 const SOME: [&str; 6] = [
-    "records of fox: 3",
-    "two records of one second",
+    "3 records of fox come before an earlier one: sorted by time",
     "columns: a, b",
+    "not read: c",
     "zone: 33N",
-    "3 animals are in tracks",
+    "12 fixes of 3 animals are in tracks, in m",
     "<odd> \u{202e} line",
+];
+
+// Lines with names that read as the start of others.
+const NAMED: [&str; 2] = [
+    "2 of 9 fixes of records of fox lie 60 km from the others",
+    "animal 'columns: a' is named columns_ a",
 ];
 
 const FOURTEEN: [&str; 14] = [
@@ -67,6 +73,10 @@ fn lines_that_were_said_are_quoted(rt: HostRuntime) {
     assert!(rt;
         is_written(said(rt.alloc(), &SOME[..1]), ""),
         "lines on animals are passed"
+    );
+    assert!(rt;
+        is_written(said(rt.alloc(), &NAMED), SAID_OF_NAMED),
+        "{SAID_OF_NAMED}"
     );
 }
 

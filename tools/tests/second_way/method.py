@@ -3,6 +3,7 @@ those on the ground."""
 
 from __future__ import annotations
 
+import re
 from collections import Counter
 from math import cosh
 from typing import Iterator, Sequence
@@ -21,7 +22,7 @@ PHRASES = {
     "hours": "at other hours", "every": "not the first in their interval", "use": "not in use, as the data said",
     "chosen": "not chosen"}
 MOST_SAID = 12
-NOT_SAID = ("records of ", "columns: ", "not read: ", " animals are in ")
+NOT_SAID = re.compile(r"columns: |not read: |[0-9]+ records of |[0-9]+ fixes of [0-9]+ animals are in ")
 SCALE, EARTH = 0.9996, 6_371_008.8  # of UTM in the middle of a zone, and the mean radius in metres
 SIDE = 10_000  # metres of a square whose area is compared
 RULE = (
@@ -75,7 +76,7 @@ def options_of(split: Split | None) -> str:
 
 def said_of(split: Split | None) -> str:
     """What was said when the fixes were read, but for lines on one animal and on files."""
-    own = [line for line in (split.said if split else ()) if not any(part in line for part in NOT_SAID)]
+    own = [line for line in (split.said if split else ()) if not NOT_SAID.match(line)]
     if not own:
         return ""
     texts = "; ".join(f"\u201c{text_of(line)}\u201d" for line in own[:MOST_SAID])
