@@ -318,8 +318,8 @@ pub(crate) const SAID_OF_FOURTEEN: &str =
     ; “line 7”; “line 8”; “line 9”; “line 10”; “line 11”; and 2 lines more.";
 
 pub(crate) const SAID_OF_NAMED: &str =
-    " When the fixes were read this was said: “2 of 9 fixes of records of fox lie 60 km from the others”; “animal '\
-    columns: a' is named columns_ a”.";
+    " When the fixes were read this was said: “2 of 9 fixes of records of fox lie 60 km from the others”; “animal &#\
+    x27;columns: a&#x27; is named columns_ a”.";
 
 pub(crate) const LEFT: &str =
     "Of 12,345 fixes of the export 1,203 were left out: 3 marked as outliers and 1,200 faster than the limit.";
