@@ -157,6 +157,12 @@ fn has_hours(title: &[u8], texts: &Texts) -> bool {
     texts.are_several && texts.are_numbered && is_one
 }
 
+// Whether a column of this title and with such texts has clocks in digits alone.
+fn has_digits(title: &[u8], texts: &Texts) -> bool {
+    let is_one = has_word(title, &TIME_WORDS) && !has_word(title, &OTHER_TIMES);
+    texts.are_several && texts.are_digits && is_one
+}
+
 // Whether a column of this title and with such texts has minutes or seconds, for which this sign stands.
 fn is_part(title: &[u8], texts: &Texts, sign: &str) -> bool {
     texts.are_several && texts.are_minutes && sign_of(title, texts.first_text()) == Some(sign)
@@ -230,6 +236,8 @@ fn what_is_passed(known: Known, title: &[u8], texts: &Texts) -> Option<Passed> {
         } else {
             Passed::OddHour
         })
+    } else if known.are_days && has_digits(title, texts) {
+        Some(Passed::OddHour)
     } else if known.lacks_minutes && is_part(title, texts, "%M") {
         Some(Passed::Minute)
     } else if known.lacks_seconds && is_part(title, texts, "%S") {

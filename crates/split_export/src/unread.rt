@@ -2,7 +2,7 @@
 
 use crate::unread_moments::Moments;
 use crate::unread_sides::Sides;
-use crate::unread_words::{is_grid_zone, is_numbered, is_of_clock, is_place};
+use crate::unread_words::{is_clock_of_digits, is_grid_zone, is_numbered, is_of_clock, is_place};
 use csv::ByteRecord;
 use range_plane::OutOfMemory;
 use split_filters::class_name;
@@ -34,6 +34,8 @@ pub struct Texts {
     pub are_minutes: bool,
     /// Whether all begin with a digit, as far as they were looked at.
     pub are_numbered: bool,
+    /// Whether all are clocks in digits alone, as 0930 and 93000.
+    pub are_digits: bool,
     /// Whether all are zones of time that are UTC.
     pub are_utc: bool,
     /// Whether all are offsets from UTC, or names of zones of time.
@@ -118,6 +120,7 @@ impl Texts {
             are_hours: true,
             are_minutes: true,
             are_numbered: true,
+            are_digits: true,
             are_utc: true,
             are_of_clocks: true,
             are_grid_zones: true,
@@ -169,6 +172,7 @@ impl Texts {
             are_hours: self.are_hours && is_hour(text),
             are_minutes: self.are_minutes && is_minute(text),
             are_numbered: self.are_numbered && is_numbered(text),
+            are_digits: self.are_digits && is_clock_of_digits(text),
             are_utc: self.are_utc && is_utc(text),
             are_of_clocks: self.are_of_clocks && (is_utc(text) || is_of_clock(text)),
             are_grid_zones: self.are_grid_zones && is_grid_zone(text),
@@ -218,6 +222,7 @@ impl Texts {
             || self.moments.are_open()
             || self.are_hours
             || self.are_minutes
+            || self.are_digits
             || self.are_of_clocks
             || self.are_grid_zones
             || self.are_units

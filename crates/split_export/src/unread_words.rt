@@ -117,3 +117,29 @@ pub(crate) fn is_grid_zone(text: &[u8]) -> bool {
         _ => false,
     }
 }
+
+// Whether two digits are those of a minute or a second.
+fn is_minute(tens: u8, ones: u8) -> bool {
+    (b'0'..=b'5').contains(&tens) && ones.is_ascii_digit()
+}
+
+// Whether one digit or two are those of an hour.
+fn is_hour(text: &[u8]) -> bool {
+    match text {
+        [b'2', ones] => (b'0'..=b'3').contains(ones),
+        [b'0' | b'1', ones] => ones.is_ascii_digit(),
+        [only] => only.is_ascii_digit(),
+        _ => false,
+    }
+}
+
+/// Whether a text is a clock in digits alone, as 930, 0930 and 93000, whose first zero may be lost.
+pub(crate) fn is_clock_of_digits(text: &[u8]) -> bool {
+    match text {
+        [hour @ .., ten, minute] if hour.len() <= 2 => is_hour(hour) && is_minute(*ten, *minute),
+        [hour @ .., ten, minute, tens, second] => {
+            is_hour(hour) && is_minute(*ten, *minute) && is_minute(*tens, *second)
+        }
+        _ => false,
+    }
+}

@@ -172,6 +172,9 @@ REFUSED = [
     *((f"hours beside days as {cell}", [], f"id,date,x,y,{title}\na,2024-05-01,1000,2000,{cell}\na,2024-05-01,1030,2040,{other}\n".encode(), None,
        f"column 5 '{title}' has hours, which the days of the time have not: write them as clocks, such as 00:30, and join them, as by --time 'date,{title}', or remove it")
       for title, cell, other in (("hour", "0.5", "1.5"), ("hora", "0030", "0130"), ("hour", "00h30", "01h30"), ("Hour (UTC)", "1.25", "2.50"))),
+    *((f"clocks of digits beside days, {title}", [], f"id,date,x,y,{title}\na,2024-05-01,1000,2000,{one}\na,2024-05-01,1030,2040,{other}\n".encode(), None,
+       f"column 5 '{title}' has hours, which the days of the time have not: write them as clocks, such as 00:30, and join them, as by --time 'date,{title}', or remove it")
+      for title, one, other in (("clock", "103000", "113000"), ("gps_time", "0930", "2359"), ("UTC.time", "93000", "230500"), ("local_time", "930", "1015"))),
     ("metres beside degrees of the same title", [], b"id,date,x,y,X,Y\na,2024-05-01,561000,5134000,,\na,2024-05-02,561030,5134040,,\na,2024-05-03,,,561000,5134000\n", None,
      "column 6 'Y' has coordinates of records that have none"),
     ("coordinates in two pairs of columns", [], b"id,date,x,y,lon,lat\na,2024-05-01,561000,5134000,,\na,2024-05-02,561030,5134040,,\na,2024-05-03,,,15.8,46.3\n", None,
@@ -492,6 +495,9 @@ READ = [
      b"a,2024-05-01,1000,2000,DE,FM,morning,12a,1,3\na,2024-05-02,1030,2040,DE,FM,evening,7p,2,4\n",
      [*LINES, columns("id, time, x, y", "0.030 by 0.040", ", from 2024-05-01 to 2024-05-02"), "not read: country, band, daypart, nest, amp, pm25"],
      {"a": "a,1714521600,1000,2000\na,1714608000,1030,2040\n"}),
+    *((f"digits that say nothing of hours beside days, {title}", [], f"id,date,x,y,{title}\na,2024-05-01,1000,2000,{one}\na,2024-05-02,1030,2040,{other}\n".encode(),
+       [*LINES, columns("id, date, x, y", "0.030 by 0.040", ", from 2024-05-01 to 2024-05-02"), f"not read: {title}"], {"a": "a,1714521600,1000,2000\na,1714608000,1030,2040\n"})
+      for title, one, other in (("time_to_fix", "45", "120"), ("collar", "1030", "1115"), ("gps_time", "1030", "9999"), ("release_time", "0930", "1015"))),
     ("columns that say nothing of hours beside days", [], b"id,date,x,y,HR (bpm),x_std,hour\na,2024-05-01,1000,2000,80,1.5,12\na,2024-05-02,1030,2040,95,2.5,12\n",
      [*LINES, columns("id, date, x, y", "0.030 by 0.040", ", from 2024-05-01 to 2024-05-02"), "not read: HR (bpm), x_std, hour"],
      {"a": "a,1714521600,1000,2000\na,1714608000,1030,2040\n"}),
