@@ -37,6 +37,7 @@ mod utm;
 mod utm_beside;
 mod words;
 mod words_missing;
+mod years;
 mod zeros;
 mod zones;
 

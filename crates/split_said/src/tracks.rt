@@ -17,6 +17,7 @@ use crate::sheet::Sheet;
 use crate::stop::{Stop, nothing_left, refusal_of};
 use crate::times::tell_times;
 use crate::words::{push, push_number, push_quoted};
+use crate::years::ask_years;
 use indexmap::IndexSet;
 use range_plane::{FIX_LIMIT, OutOfMemory, Scale};
 use split_refusal::Refusal;
@@ -252,6 +253,7 @@ fn tell_last(
     tell_unfit(alloc, said, herd)?;
     ask_far_fixes(alloc, said, herd, sheet)?;
     ask_apart(alloc, said, herd, sheet.unit)?;
+    ask_years(alloc, said, herd, sheet)?;
     if !grid.is_projected {
         check_metres(alloc, said, herd, sheet.unit)?;
     }
@@ -262,7 +264,7 @@ fn tell_last(
 }
 
 /// Says what there is to say of the tracks of a table that are written: animals without a file, tracks that the program refuses,
-/// fixes that lie far from the others of their animal, coordinates that can hardly be metres, the columns that were taken and
+/// fixes that lie far from the others of their animal, or years before them, coordinates that can hardly be metres, the columns that were taken and
 /// those that were not, and names that are others in files. `animals` are the names in the table; the other parameters are those
 /// of [`tell_tracks`].
 ///
