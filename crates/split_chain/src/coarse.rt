@@ -13,12 +13,12 @@ use std::alloc::Global;
 // The fewest fixes that are not round by chance.
 const FEWEST: usize = 20;
 
-// The trillionths of a degree with so many decimals, from none to three; how long such a step is, and how many decimals those are.
+// Trillionths of a degree: the steps of degrees with none to three decimals, how many decimals those are, and how long such a step is.
 const STEPS: [(i64, &str, &str); 4] = [
-    (1_000_000_000_000, "no", "111 km"),
-    (100_000_000_000, "one", "11 km"),
-    (10_000_000_000, "two", "1.1 km"),
-    (1_000_000_000, "three", "110 m"),
+    (1_000_000_000_000, "no decimals", "111 km"),
+    (100_000_000_000, "at most one decimal", "11 km"),
+    (10_000_000_000, "at most two decimals", "1.1 km"),
+    (1_000_000_000, "at most three decimals", "110 m"),
 ];
 
 // The steps of metres, of which the first that all have is said.
@@ -65,7 +65,7 @@ fn degrees_words(alloc: Global, rows: &[Row]) -> Result<Option<String>, OutOfMem
     for (step, decimals, length) in STEPS {
         if rows.iter().all(|row| are_multiples(degrees_of(row), step)) {
             let words = format!(in alloc;
-                "longitudes and latitudes have {decimals} decimals, and so steps of {length}: were they rounded?"
+                "longitudes and latitudes have {decimals}, and so steps of {length}: were they rounded?"
             )?;
             return Ok(Some(words));
         }
