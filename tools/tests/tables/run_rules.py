@@ -527,7 +527,7 @@ READ = [
       "coordinates are rounded to whole metres, which moves a fix by at most 0.14 m", columns("id, second, lon, lat", "0.000 by 0.000", " near 15.5 E 46.0 N, from second 0 to 19")],
      {"v": "".join(f"v,{at},538716,5094169\n" for at in range(20))}),
     ("fixes that lie years apart", [], b"id,time,x,y\na,2004-09-15 10:00,1000,2000\na,2004-09-16 10:00,1010,2000\na,2024-05-01 10:00,1030,2040\nb,2020-05-01 10:00,1030,2040\nb,2024-05-01 10:00,1030,2040\n",
-     ["the first 2 of 3 fixes of a are 7167 days before the others: are their dates right?", *LINES, "columns: id, time, x, y; 2 animals, box 0.030 by 0.040 km, from 2004-09-15 to 2024-05-01"],
+     [*LINES, "the first 2 of 3 fixes of a are 7167 days before the others: are their dates right?", "columns: id, time, x, y; 2 animals, box 0.030 by 0.040 km, from 2004-09-15 to 2024-05-01"],
      {"a": "a,1095242400,1000,2000\na,1095328800,1010,2000\na,1714557600,1030,2040\n", "b": "b,1588327200,1030,2040\nb,1714557600,1030,2040\n"}),
     ("a name that databases write for none", [], f"{TITLES}\n\\N,0,1000,2000\n\\N,60,1030,2040\nv,60,1030,2040\nv,90,1030,2040\n".encode(),
      ["animal '\\N' has 2 records: are they of no animal?", *LINES, "columns: animal, second, easting, northing; 2 animals, box 0.030 by 0.040 km, from second 0 to 90", "animal '\\N' is named _N"],
