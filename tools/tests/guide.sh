@@ -152,10 +152,12 @@ print(sys.argv[1], len(areas), *(f"{number:.1f}" for number in [*percents, last]
         NR > 1 { printf "%s,%s,%.2f,%.2f\n", $1, $2, $3 / 80000 + 7, $4 / 111000 }' examples/fox.csv >two_decimals.csv
     awk -F, -v OFS=, 'NR > 1 { $3 += 1200000 } { print }' examples/fox.csv >mercator.csv
     awk -F, -v OFS=, 'NR == 1 { print } NR > 1 { print $1, $2, $4, $3 }' examples/fox.csv >exchanged.csv
-    for table in leaves one_name two_names an_hour to_come two_decimals mercator exchanged; do
+    for table in leaves one_name two_names an_hour to_come mercator exchanged; do
         "$splitter" --into "asked/$table" $table.csv 2>said
         holds "nothing is asked of the table $table" [ "$?-$(grep -c '?$' said)" = 0-0 ]
     done
+    "$splitter" --into asked/two_decimals two_decimals.csv 2>said
+    holds "it is asked whether two decimals were rounded" grep -q 'have at most two decimals, .*: were they rounded?$' said
     for table in mercator exchanged; do
         "$splitter" --zone 33N --into "asked/33N/$table" $table.csv 2>said
         holds "the table $table is refused in a zone" grep -q '^split: areas of fox are .* % too great on this grid: ' said
