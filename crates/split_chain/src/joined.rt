@@ -12,6 +12,9 @@ use std::alloc::{AllocError, Global};
 // The form of days of ISO.
 const ISO_DAY: &str = "%Y-%m-%d";
 
+// The form of minutes of ISO.
+const ISO_MINUTE: &str = "%Y-%m-%d %H:%M";
+
 // The signs of a clock, in their order.
 const CLOCK: [&str; 3] = ["%H", "%M", "%S"];
 
@@ -63,8 +66,10 @@ impl<'a> Unread<'a> {
     }
 }
 
-// The sign of hours in a form, and that of hours before a half of the day.
+// The signs of hours and of seconds in a form, and that of hours before a half of the day.
 const HOURS: &str = "%H";
+
+pub(crate) const SECONDS: &str = "%S";
 
 const HOURS_OF_HALVES: &str = "%I";
 
@@ -150,12 +155,14 @@ impl Join {
     }
 }
 
-// The forms of times that are named, or that of days of ISO.
-fn forms_of<'a>(wish: &Wish<'a>) -> &'a str {
-    if wish.forms.is_empty() {
-        ISO_DAY
-    } else {
+// The forms of times that are named, or that of ISO before this sign.
+fn forms_of<'a>(wish: &Wish<'a>, sign: &str) -> &'a str {
+    if !wish.forms.is_empty() {
         wish.forms
+    } else if sign == SECONDS {
+        ISO_MINUTE
+    } else {
+        ISO_DAY
     }
 }
 
@@ -213,7 +220,7 @@ pub(crate) fn join_words(
     if sign == HOURS {
         join.add_half(unread)?;
     }
-    join.words(alloc, forms_of(wish))
+    join.words(alloc, forms_of(wish, sign))
 }
 
 // The signs of a day, with that of its year as it is written.

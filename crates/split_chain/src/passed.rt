@@ -5,7 +5,7 @@ ghost use Rattle.split_refusal.specs.Refused.{IsOfNoFix};
 
 use crate::beside::refuse_beside;
 use crate::halves::refuse_halves;
-use crate::joined::{Unread, join_words, joined_titles, own_title, refuse_parts};
+use crate::joined::{SECONDS, Unread, join_words, joined_titles, own_title, refuse_parts};
 use crate::minutes::refuse_minutes;
 use crate::summers::refuse_summers;
 use crate::systems::{CODE_WORDS, ZONE_WORDS, refuse_systems};
@@ -24,6 +24,9 @@ use std::alloc::{AllocError, Global};
 
 // The seconds of a day.
 pub(crate) const DAY: i128 = 86_400;
+
+// The seconds of a minute.
+const MINUTE: u64 = 60;
 
 // The zone that every clock without a name is of.
 pub(crate) const UTC: &str = "UTC";
@@ -190,6 +193,25 @@ fn are_days(export: &Export<'_>, clock: &Clock) -> bool {
             .all(|row| is_at_midnight(row, clock))
 }
 
+// Whether the time of a row, if it has one, is of whole minutes.
+fn is_of_minutes(row: &Row) -> bool {
+    match row.told {
+        Told::Fix(fix) => {
+            fix.moment.nanosecond == 0 && fix.moment.second.checked_rem(MINUTE) == Some(0)
+        }
+        Told::LeftOut(_) => true,
+    }
+}
+
+// Whether times have minutes and no seconds, by their forms, or by all of them where they are text of ISO.
+fn lack_seconds(export: &Export<'_>, wish: &Wish<'_>) -> bool {
+    if wish.forms.is_empty() {
+        export.ledger.rows.iter().all(is_of_minutes)
+    } else {
+        wish.forms.contains("%M") && !wish.forms.contains("%S")
+    }
+}
+
 // What is known of an export beside its columns.
 #[derive(Clone, Copy)]
 struct Known {
@@ -214,7 +236,7 @@ fn known_of(export: &Export<'_>, wish: &Wish<'_>) -> Known {
         has_own_metres: columns.metres.is_some() && !columns.is_utm,
         is_in_utc: wish.clock_name == UTC,
         lacks_minutes: (forms.contains("%H") || forms.contains("%I")) && !forms.contains("%M"),
-        lacks_seconds: forms.contains("%M") && !forms.contains("%S"),
+        lacks_seconds: lack_seconds(export, wish),
     }
 }
 
@@ -240,7 +262,7 @@ fn what_is_passed(known: Known, title: &[u8], texts: &Texts) -> Option<Passed> {
         Some(Passed::OddHour)
     } else if known.lacks_minutes && is_part(title, texts, "%M") {
         Some(Passed::Minute)
-    } else if known.lacks_seconds && is_part(title, texts, "%S") {
+    } else if known.has_time && known.lacks_seconds && is_part(title, texts, SECONDS) {
         Some(Passed::Second)
     } else if known.has_time && known.is_in_utc && has_offsets(title, texts) {
         Some(Passed::Offset)
@@ -258,7 +280,7 @@ fn part_of(passed: Passed) -> Option<(&'static str, &'static str)> {
     match passed {
         Passed::Hour => Some(("hours, which the days of the time have not", "%H")),
         Passed::Minute => Some(("minutes, which the hours of the time have not", "%M")),
-        Passed::Second => Some(("seconds, which the minutes of the time have not", "%S")),
+        Passed::Second => Some(("seconds, which the minutes of the time have not", SECONDS)),
         _ => None,
     }
 }

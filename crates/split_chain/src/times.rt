@@ -10,7 +10,7 @@ use range_plane::OutOfMemory;
 use split_export::{
     Asked, Export, TimesLook, column_of_times, first_of_utc, look_at_times, rules_of,
 };
-use split_refusal::Refusal;
+use split_refusal::{Refusal, sign_of};
 use split_titles::{ClockDoubt, clock_doubt, not_read};
 use std::alloc::{AllocError, Global};
 
@@ -86,6 +86,66 @@ fn refuse_times_of_utc(alloc: Global, asked: &Asked<'_>, export: &Export<'_>) ->
     }
 }
 
+// A text of digits that is no number of a year and none of a clock, by which a title alone tells its sign.
+const DIGITS: &[u8] = b"100";
+
+// The first of signs of one thing: `%Y` also for `%y`, `%m` for `%b`, and `%H` for `%I`; none of what is no sign alone.
+fn first_sign(part: &str) -> Option<&'static str> {
+    match part.as_bytes() {
+        b"%Y" | b"%y" => Some("%Y"),
+        b"%m" | b"%b" => Some("%m"),
+        b"%d" => Some("%d"),
+        b"%j" => Some("%j"),
+        b"%H" | b"%I" => Some("%H"),
+        b"%M" => Some("%M"),
+        b"%S" => Some("%S"),
+        _ => None,
+    }
+}
+
+// Whether the title of a column says a sign other than this part of a form.
+fn is_other_sign(title: &[u8], part: &str) -> bool {
+    match (sign_of(title, DIGITS), first_sign(part)) {
+        (Some(own), Some(sign)) => own != sign,
+        _ => false,
+    }
+}
+
+// The first column of several that are joined whose title says another sign than the form has at its place, and what it has there.
+fn first_other<'a>(export: &Export<'_>, form: &'a str) -> Option<(usize, &'a str)> {
+    for (column, part) in export.columns.time.iter().zip(form.split(' ')) {
+        if is_other_sign(title_at(export, *column), part) {
+            return Some((*column, part));
+        }
+    }
+    None
+}
+
+// Why a column that is joined is refused, which this part of the form stands for.
+fn sign_words(alloc: Global, part: &str) -> Result<String, AllocError> {
+    format!(in alloc;
+        "is read as {part}, by its place among the columns of the time: put the signs of --time-format in the order of these columns"
+    )
+}
+
+// Refuses columns of a time whose titles say other signs than the form has at their places, where it has one sign for each.
+fn refuse_other_signs(alloc: Global, wish: &Wish<'_>, export: &Export<'_>) -> Result<(), Refusal>
+    ensures { IfErr result IsOfNoFix }
+{
+    let is_one = !wish.forms.contains("|")
+        && wish.forms.split(' ').count() == export.columns.time.len();
+    if !is_one {
+        return Ok(());
+    }
+    let Some((column, part)) = first_other(export, wish.forms) else {
+        return Ok(());
+    };
+    match sign_words(alloc, part) {
+        Ok(words) => Err(refusal_of(alloc, column, title_at(export, column), &words)),
+        Err(_) => Err(Refusal::out_of_memory(alloc)),
+    }
+}
+
 // Looks at the times of an export; none where there are no rules for it.
 fn look_by(
     alloc: Global,
@@ -147,6 +207,7 @@ pub(crate) fn form_of_times(
         refuse_unread_times(alloc, asked, export)?;
         return Ok(Vec::new(alloc));
     }
+    refuse_other_signs(alloc, wish, export)?;
     refuse_times_of_utc(alloc, asked, export)?;
     let Some(look) = look_by(alloc, export, asked)? else {
         return Ok(Vec::new(alloc));

@@ -310,13 +310,80 @@ pub(crate) fn push_form(alloc: Global, text: &mut Vec<u8>, cell: &[u8]) -> Resul
     Ok(())
 }
 
-/// Appends which other form than those that were named a field has.
+// Where a sign stands in a form.
+fn place_of(form: &str, sign: &str) -> Option<usize> {
+    for place in 0..form.len() {
+        match form.as_bytes().split_at_checked(place) {
+            Some((_, rest)) if rest.starts_with(sign.as_bytes()) => return Some(place),
+            _ => {}
+        }
+    }
+    None
+}
+
+// Whether in a form the day stands before the month, as numbers; none where it does not have both, or begins with the year.
+fn is_day_first(form: &str) -> Option<bool> {
+    if form.starts_with("%Y") {
+        return None;
+    }
+    match (place_of(form, "%d"), place_of(form, "%m")) {
+        (Some(day), Some(month)) => Some(day < month),
+        _ => None,
+    }
+}
+
+// Whether day and month stand the other way round in two forms.
+fn are_turned(form: &str, other: &str) -> bool {
+    match (is_day_first(form), is_day_first(other)) {
+        (Some(one), Some(two)) => one != two,
+        _ => false,
+    }
+}
+
+// Whether a field has a form in which day and month stand otherwise than in that which was named.
+fn has_turned(alloc: Global, cell: &[u8], forms: &str) -> Result<bool, OutOfMemory> {
+    let mut unsaid = Vec::new(alloc);
+    for day in DAYS {
+        let is_one = are_turned(day, forms);
+        if is_one && push_forms(alloc, &mut unsaid, cell, (day, b""), 0, "")? > 0 {
+            return Ok(true);
+        }
+    }
+    Ok(false)
+}
+
+// Appends the forms of a field in which day and month stand as in that which was named, the first behind these words.
+fn push_straight_forms(
+    alloc: Global,
+    text: &mut Vec<u8>,
+    cell: &[u8],
+    forms: &str,
+    words: &str,
+) -> Result<(), OutOfMemory> {
+    let mut count = 0;
+    for day in DAYS {
+        if !are_turned(day, forms) {
+            count = push_forms(alloc, text, cell, (day, b""), count, words)?;
+        }
+    }
+    Ok(())
+}
+
+/// Appends which other form than those that were named a field has, or that its day and its month may stand the other way round, as
+/// then they do in all fields.
 pub(crate) fn push_other_form(
     alloc: Global,
     text: &mut Vec<u8>,
     cell: &[u8],
+    forms: &str,
 ) -> Result<(), OutOfMemory> {
+    if has_turned(alloc, cell, forms)? {
+        push(
+            text,
+            ": if day and month stand the other way round in all, name that form alone",
+        )?;
+        return Ok(());
+    }
     let words = ": name its form too, behind a |, as '";
-    push_all_forms(alloc, text, cell, b"", words)?;
-    Ok(())
+    push_straight_forms(alloc, text, cell, forms, words)
 }

@@ -262,7 +262,7 @@ pub(crate) fn time_sentence(
 ) -> Result<Sentence, OutOfMemory> {
     if fault == TimeFault::NotTime && !forms.is_empty() && !is_missing(field.cell) {
         let mut sentence = form_sentence(alloc, field, forms)?;
-        push_other_form(alloc, &mut sentence.text, field.cell)?;
+        push_other_form(alloc, &mut sentence.text, field.cell, forms)?;
         return Ok(sentence);
     }
     sentence(alloc, field, why_no_time(field.cell, fault))

@@ -132,6 +132,13 @@ REFUSED = [
                          ("13 May 2024 10:00:00 GMT+0200", "'%d %b %Y %H:%M:%S GMT+0200', and its zone, as by --tz Europe/Ljubljana"))),
     ("a clock of digits behind a day", ["--time", "date,clock"], b"id,date,clock,x,y\na,2024-05-01,103000,1000,2000\n", 1,
      "date clock is '2024-05-01 103000' and not a time such as 2024-05-01 00:30:04: name its form, as by --time-format '%Y-%m-%d %H%M%S'"),
+    ("a time whose day and month stand the other way round", ["--time-format", "%d/%m/%Y %H:%M"], b"id,date,x,y\na,05/11/2024 06:00,1000,2000\na,05/13/2024 06:00,1000,2000\n", 2,
+     "date is '05/13/2024 06:00' and not a time of the form %d/%m/%Y %H:%M: if day and month stand the other way round in all, name that form alone"),
+    *((f"titles of parts that stand otherwise in the form, {form}", ["--time", titles, "--time-format", form], f"id,{titles},x,y\na,{cells},1000,2000\n".encode(), None, f"column {number} '{title}' is read as {sign}, by its place")
+      for titles, form, cells, number, title, sign in (
+          ("year,day,month,hour", "%Y %m %d %H", "2024,1,5,6", 3, "day", "%m"), ("Jahr,Monat,Tag", "%Y %d %m", "2024,5,1", 3, "Monat", "%d"), ("date,min,hour", "%Y-%m-%d %H %M", "2024-05-01,3,6", 3, "min", "%H"))),
+    ("seconds beside times of whole minutes", [], b"id,time,x,y,sec\na,2024-05-01 01:30,1000,2000,5\na,2024-05-01 01:30,1030,2040,40\n", None,
+     "column 5 'sec' has seconds, which the minutes of the time have not: join them, as by --time 'time,sec' --time-format '%Y-%m-%d %H:%M %S', or remove it"),
     ("a time of another form than that which was named", ["--time-format", "%d.%m.%Y"], b"id,date,x,y\na,13.05.2024,1000,2000\na,2024-05-14 10:30,1000,2000\n", 2,
      "date is '2024-05-14 10:30' and not a time of the form %d.%m.%Y: name its form too, behind a |, as '%Y-%m-%d %H:%M'"),
     ("digits that have lost a zero", ["--time", "date,time", "--time-format", "%Y-%m-%d %H%M"], b"id,date,time,x,y\na,2024-05-01,130,1000,2000\n", 1, "not a time of the form %Y-%m-%d %H%M"),
@@ -498,6 +505,10 @@ READ = [
     *((f"digits that say nothing of hours beside days, {title}", [], f"id,date,x,y,{title}\na,2024-05-01,1000,2000,{one}\na,2024-05-02,1030,2040,{other}\n".encode(),
        [*LINES, columns("id, date, x, y", "0.030 by 0.040", ", from 2024-05-01 to 2024-05-02"), f"not read: {title}"], {"a": "a,1714521600,1000,2000\na,1714608000,1030,2040\n"})
       for title, one, other in (("time_to_fix", "45", "120"), ("collar", "1030", "1115"), ("gps_time", "1030", "9999"), ("release_time", "0930", "1015"))),
+    ("seconds that say nothing beside times with seconds", [], b"id,time,x,y,sec\na,2024-05-01 01:30:05,1000,2000,5\na,2024-05-01 01:30:40,1030,2040,41\n",
+     [*LINES, columns("id, time, x, y", "0.030 by 0.040", ", from 2024-05-01 to 2024-05-01"), "not read: sec"], {"a": "a,1714527005,1000,2000\na,1714527040,1030,2040\n"}),
+    ("parts that are joined by their form", ["--time", "Tag,Monat,Jahr,Stunde", "--time-format", "%d %b %y %H"], b"id,Tag,Monat,Jahr,Stunde,x,y\na,1,May,24,6,1000,2000\n",
+     ["times are read as %d %b %y %H, in UTC", *LINES, columns("id, Tag, Monat, Jahr, Stunde, x, y", "0.000 by 0.000", ", from 2024-05-01 to 2024-05-01")], {"a": "a,1714543200,1000,2000\n"}),
     ("columns that say nothing of hours beside days", [], b"id,date,x,y,HR (bpm),x_std,hour\na,2024-05-01,1000,2000,80,1.5,12\na,2024-05-02,1030,2040,95,2.5,12\n",
      [*LINES, columns("id, date, x, y", "0.030 by 0.040", ", from 2024-05-01 to 2024-05-02"), "not read: HR (bpm), x_std, hour"],
      {"a": "a,1714521600,1000,2000\na,1714608000,1030,2040\n"}),
