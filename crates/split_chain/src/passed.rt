@@ -203,10 +203,10 @@ fn is_of_minutes(row: &Row) -> bool {
     }
 }
 
-// Whether times have minutes and no seconds, by their forms, or by all of them where they are text of ISO.
+// Whether times have minutes and no seconds, by their forms, or by all of them where they are text of ISO and not days alone.
 fn lack_seconds(export: &Export<'_>, wish: &Wish<'_>) -> bool {
     if wish.forms.is_empty() {
-        export.ledger.rows.iter().all(is_of_minutes)
+        export.ledger.rows.iter().all(is_of_minutes) && !are_days(export, wish.clock)
     } else {
         wish.forms.contains("%M") && !wish.forms.contains("%S")
     }
