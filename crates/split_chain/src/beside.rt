@@ -10,8 +10,14 @@ use split_refusal::{Kind, Refusal};
 use split_titles::{Pair, degrees_beside, trimmed};
 use std::alloc::{AllocError, Global};
 
+// How many columns a table may have whose titles are compared two by two.
+const MOST_COLUMNS: usize = 512;
+
 // The columns of longitude and latitude that are not read.
 fn degrees_in(alloc: Global, export: &Export<'_>) -> Result<Option<Pair>, OutOfMemory> {
+    if export.titles.len() > MOST_COLUMNS {
+        return Ok(None);
+    }
     let titles = shown(alloc, &export.titles)?;
     Ok(degrees_beside(&titles, &export.columns))
 }

@@ -471,7 +471,7 @@ pub fn split_export<P: Progress>(
     tell_other_points(alloc, &mut said, wish)?;
     tell_unmet(alloc, &mut said, bytes, asked, wish, &export)?;
     tell_predeployment(alloc, &mut said, &export)?;
-    tell_unknown_words(alloc, &mut said, wish, &export)?;
+    tell_unknown_words(alloc, &mut said, asked, &export)?;
     tell_coarse(alloc, &mut said, asked.unit, &export)?;
     split_read(alloc, asked, wish, &form, export, said)
 }

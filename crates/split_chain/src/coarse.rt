@@ -91,7 +91,7 @@ fn metres_words(alloc: Global, rows: &[Row], unit: Scale) -> Result<Option<Strin
     Ok(None)
 }
 
-// Asks it of the coordinates that are read.
+// Asks it of the coordinates that are read, but for those of Argos, which has few decimals.
 fn tell(
     alloc: Global,
     said: &mut Said,
@@ -99,7 +99,8 @@ fn tell(
     export: &Export<'_>,
 ) -> Result<(), OutOfMemory> {
     let rows = &export.ledger.rows;
-    if count_fixes(rows) < FEWEST {
+    let is_of_argos = export.columns.argos.is_some();
+    if is_of_argos || count_fixes(rows) < FEWEST {
         return Ok(());
     }
     let words = match export.columns.degrees {

@@ -10,7 +10,7 @@ use split_clock::Clock;
 use split_export::{Export, Flag, Flags, flags_in};
 use split_reading::{Row, Told};
 use split_refusal::Refusal;
-use split_titles::{is_of_afternoon, is_of_halves};
+use split_titles::{has_word, is_of_afternoon, is_of_halves};
 use std::alloc::Global;
 
 // The seconds of a day before noon.
@@ -39,11 +39,11 @@ fn is_odd(clock: &Clock, row: &Row, flag: Flag) -> bool {
     }
 }
 
-// Whether flags say of all rows as a clock does which of them were behind noon.
-fn say_clocks(clock: &Clock, rows: &[Row], flags: &[Flag]) -> bool {
+// Whether flags say of all rows as a clock does which of them were of a half of the day.
+fn say_clocks(half: Half, clock: &Clock, rows: &[Row], flags: &[Flag]) -> bool {
     for (index, row) in rows.iter().enumerate() {
         let flag = flags.get(index).copied().unwrap_or(Flag::Missing);
-        if is_odd(clock, row, flag) {
+        if is_odd(half, clock, row, flag) {
             return false;
         }
     }
@@ -61,13 +61,17 @@ fn refuse_column(
     ensures { IfErr result IsOfNoFix }
 {
     let rows = &export.ledger.rows;
-    let kind = if is_of_afternoon(title) {
+    let is_forenoon = is_of_forenoon(title);
+    let half = Half {
+        is_behind_noon: !is_forenoon,
+    };
+    let kind = if is_forenoon || is_of_afternoon(title) {
         Flags::Plain
     } else {
         Flags::Halves
     };
     match flags_in(alloc, &export.text, column, rows.len(), kind) {
-        Ok(Some(flags)) if say_clocks(wish.clock, rows, &flags) => Ok(()),
+        Ok(Some(flags)) if say_clocks(half, wish.clock, rows, &flags) => Ok(()),
         Ok(_) => Err(refusal_of(alloc, column, title, WORDS)),
         Err(_) => Err(Refusal::out_of_memory(alloc)),
     }

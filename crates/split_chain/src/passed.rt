@@ -160,9 +160,30 @@ fn has_hours(title: &[u8], texts: &Texts) -> bool {
     texts.are_several && texts.are_numbered && is_one
 }
 
+// Words of titles of lengths of time and of other numbers, beside words for the time.
+const NO_CLOCKS: [&str; 16] = [
+    "times",
+    "temps",
+    "interval",
+    "to",
+    "lag",
+    "since",
+    "between",
+    "elapsed",
+    "duration",
+    "delta",
+    "diff",
+    "difference",
+    "step",
+    "until",
+    "per",
+    "gap",
+];
+
 // Whether a column of this title and with such texts has clocks in digits alone.
 fn has_digits(title: &[u8], texts: &Texts) -> bool {
-    let is_one = has_word(title, &TIME_WORDS) && !has_word(title, &OTHER_TIMES);
+    let is_other = has_word(title, &OTHER_TIMES) || has_word(title, &NO_CLOCKS);
+    let is_one = has_word(title, &TIME_WORDS) && !is_other;
     texts.are_several && texts.are_digits && is_one
 }
 

@@ -3,7 +3,7 @@
 ghost use Rattle.std.specs.Prelude.{IfErr};
 ghost use Rattle.split_refusal.specs.Refused.{IsOfNoFix};
 
-use crate::passed::{refusal_of, title_at};
+use crate::passed::{UTC, refusal_of, title_at};
 use crate::read::{day_refusal, untimed_refusal};
 use crate::wish::Wish;
 use range_plane::OutOfMemory;
@@ -13,9 +13,6 @@ use split_export::{
 use split_refusal::{Refusal, sign_of};
 use split_titles::{ClockDoubt, clock_doubt, not_read};
 use std::alloc::{AllocError, Global};
-
-// The zone that every clock without a name is of.
-const UTC: &str = "UTC";
 
 // Refuses a table without a column of the time where one that is not read has times.
 fn refuse_unread_times(alloc: Global, asked: &Asked<'_>, export: &Export<'_>) -> Result<(), Refusal>
@@ -69,12 +66,18 @@ fn utc_refusal(alloc: Global, export: &Export<'_>, column: usize, record: u32) -
     }
 }
 
-// Refuses times of UTC under a title that says another clock.
+// Whether the zone that was named is one of another clock than that of UTC.
+fn is_of_other_clock(asked: &Asked<'_>) -> bool {
+    clock_doubt(UTC.as_bytes(), asked.named.zone) == Some(ClockDoubt::Utc)
+}
+
+// Refuses times of UTC under a title that says another clock, where a zone of such a one was named.
 fn refuse_times_of_utc(alloc: Global, asked: &Asked<'_>, export: &Export<'_>) -> Result<(), Refusal>
     ensures { IfErr result IsOfNoFix }
 {
-    let Some(column) = local_column(export) else {
-        return Ok(());
+    let column = match local_column(export) {
+        Some(column) if is_of_other_clock(asked) => column,
+        _ => return Ok(()),
     };
     let Ok(rules) = rules_of(&export.columns, export.titles.len(), false, asked) else {
         return Ok(());

@@ -3,14 +3,13 @@
 ghost use Rattle.std.specs.Prelude.{IfErr};
 ghost use Rattle.split_refusal.specs.Refused.{IsOfNoFix};
 
-use crate::passed::{UTC, title_at};
-use crate::wish::Wish;
+use crate::passed::title_at;
 use range_plane::OutOfMemory;
-use split_export::Export;
+use split_export::{Asked, Export};
 use split_reading::{Row, Told};
 use split_refusal::Refusal;
 use split_said::Said;
-use split_titles::{Pair, Subject, trimmed, unknown_word};
+use split_titles::{PRESETS, Pair, Subject, comes_to, trimmed, unknown_word};
 use std::alloc::Global;
 
 // How coordinates and times are read.
@@ -66,6 +65,14 @@ fn tell_pair(
     )
 }
 
+// Whether a title is one of times of a preset.
+fn is_of_preset(title: &[u8]) -> bool {
+    PRESETS.iter().any(|preset| preset
+        .time
+        .split(',')
+        .any(|own| comes_to(title, own.as_bytes())))
+}
+
 // Whether a row has a fix whose time has no offset.
 fn is_local(row: &Row) -> bool {
     match row.told {
@@ -78,14 +85,16 @@ fn is_local(row: &Row) -> bool {
 fn tell_times(
     alloc: Global,
     said: &mut Said,
-    wish: &Wish<'_>,
+    asked: &Asked<'_>,
     export: &Export<'_>,
 ) -> Result<(), OutOfMemory> {
-    if wish.clock_name != UTC || !export.ledger.rows.iter().any(is_local) {
+    if asked.named.zone.is_some() || !export.ledger.rows.iter().any(is_local) {
         return Ok(());
     }
     for column in &export.columns.time {
-        tell(alloc, said, export, *column, Subject::Times, AS_TIMES)?;
+        if !is_of_preset(title_at(export, *column)) {
+            tell(alloc, said, export, *column, Subject::Times, AS_TIMES)?;
+        }
     }
     Ok(())
 }
@@ -94,11 +103,11 @@ fn tell_times(
 fn tell_all(
     alloc: Global,
     said: &mut Said,
-    wish: &Wish<'_>,
+    asked: &Asked<'_>,
     export: &Export<'_>,
 ) -> Result<(), OutOfMemory> {
     let columns = &export.columns;
-    tell_times(alloc, said, wish, export)?;
+    tell_times(alloc, said, asked, export)?;
     tell_pair(
         alloc,
         said,
@@ -125,12 +134,12 @@ fn tell_all(
 pub(crate) fn tell_unknown_words(
     alloc: Global,
     said: &mut Said,
-    wish: &Wish<'_>,
+    asked: &Asked<'_>,
     export: &Export<'_>,
 ) -> Result<(), Refusal>
     ensures { IfErr result IsOfNoFix }
 {
-    match tell_all(alloc, said, wish, export) {
+    match tell_all(alloc, said, asked, export) {
         Ok(()) => Ok(()),
         Err(_) => Err(Refusal::out_of_memory(alloc)),
     }

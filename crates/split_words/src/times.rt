@@ -39,14 +39,6 @@ fn refused_forms(alloc: Global, forms: &str, fault: FormFault) -> WordFault {
     }
 }
 
-// What a form has behind its last sign, and the blanks there.
-fn tail_of(form: &[u8]) -> &[u8] {
-    match form.rsplit(|byte| *byte == b'%').next() {
-        Some([_sign, tail @ ..]) => tail.trim_ascii(),
-        _ => b"",
-    }
-}
-
 // What a part of a form between two `%` has behind the sign with which it begins.
 fn behind_sign(part: &[u8]) -> &[u8] {
     match part {
@@ -69,24 +61,25 @@ fn may_be_zone(text: &[u8]) -> bool {
     }
 }
 
-// What the end of a form says of the clock of times against the zone that was named.
-fn doubt_of_tail(tail: &[u8], zone: Option<&[u8]>) -> Option<ClockDoubt> {
+// What stands between two signs of a form, or behind the last, says of the clock of times against the zone that was named.
+fn doubt_of_part(part: &[u8], zone: Option<&[u8]>) -> Option<ClockDoubt> {
+    let word = part.trim_ascii();
     match zone {
-        Some(name) if is_utc(tail) && name != b"UTC".as_slice() => Some(ClockDoubt::Utc),
-        None if may_be_zone(tail) && !is_utc(tail) => Some(ClockDoubt::Local),
-        _ => None,
+        Some(_) if is_utc(word) => clock_doubt(b"UTC", zone),
+        None if may_be_zone(word) && !is_utc(word) => Some(ClockDoubt::Local),
+        _ => clock_doubt(part, zone),
     }
 }
 
-// What a form says of the clock of times against the zone that was named, by its end or by words between its signs.
+// What a form says of the clock of times against the zone that was named, by what stands for itself in it.
 fn doubt_of(form: &[u8], zone: Option<&[u8]>) -> Option<ClockDoubt> {
     for part in form.split(|byte| *byte == b'%') {
-        let doubt = clock_doubt(behind_sign(part), zone);
+        let doubt = doubt_of_part(behind_sign(part), zone);
         if doubt.is_some() {
             return doubt;
         }
     }
-    doubt_of_tail(tail_of(form), zone)
+    None
 }
 
 // Whether a form has a half of the day as a text that stands for itself.
