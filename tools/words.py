@@ -21,7 +21,7 @@ WORD = re.compile(r'"([^"]+)"')
 BLANKS = {r"\u{a0}": "\u00a0", r"\u{202f}": "\u202f"}
 HEAD = """# Words of titles
 
-The words by which `homerange-split` knows what a title, or a cell of a column of sides, units or halves of the day, says; [TABLES.md](TABLES.md#titles) has the rules. Words are compared in small letters without accents, Latin, Greek and Cyrillic ones, also where an accent is a sign of its own behind its letter: `DÉLKA` is `delka`. Each word stands here once, with the accents that it has; `ß`, `æ`, `œ` and `þ` stay, and `ae` is no `ä`. Words of China and Japan of two signs or more are found within others. `tools/words.py` writes this page.
+The words by which `homerange-split` knows what a title, or a cell of a column of sides, units or halves of the day, says; [TABLES.md](TABLES.md#titles) has the rules. Words are compared in small letters without accents, Latin, Greek and Cyrillic ones, also where an accent is a sign of its own behind its letter: `DÉLKA` is `delka`. No list has a word twice, which stands with the accents that it has; `ß`, `æ`, `œ` and `þ` stay, and `ae` is no `ä`. Words of China and Japan of two signs or more are found within others. `tools/words.py` writes this page.
 
 | Meaning | Words |
 |---|---|

@@ -150,7 +150,7 @@ REFUSED = [
     *((f"a form that says a clock, {form}", ["--time-format", form, *options], b"id,date,x,y\na,1,1000,2000\n", None, f"time-format is '{form}', which {says}")
       for form, options, says in (
           ("%a %d %Y %m %H:%M:%S GMT+0200", [], "may have a zone of time"), ("%Y-%m-%d %H:%M (MESZ)", [], "may have a zone of time"),
-          ("%Y-%m-%d %H:%M UTC+2", [], "may have a zone of time"), ("%Y-%m-%d %H:%M UTC+2", ["--tz", "Etc/GMT-3"], "says another clock than tz='Etc/GMT-3'"),
+          ("%Y-%m-%d %H:%M UTC+2", [], "may have a zone of time"), ("%H:%M+2 %d.%m.%Y", [], "may have a zone of time"), ("%Y-%m-%d %H:%M UTC+2", ["--tz", "Etc/GMT-3"], "says another clock than tz='Etc/GMT-3'"),
           ("%Y-%m-%d %H:%M UTC", ["--tz", "Europe/Vienna"], "says UTC, and tz is 'Europe/Vienna'"))),
     *((f"a half of the day that stands for itself, {form}", ["--time-format", form], b"id,date,x,y\na,2024-05-01 10:30 PM,1000,2000\n", None,
        f"time-format is '{form}', in which a half of the day stands for itself: write %I for the hour and %p for the half")
@@ -486,7 +486,7 @@ READ = [
      ["times are read as %Y-%m-%d %I %M %p, in UTC", *LINES, columns("id, date, hour, min, ampm, x, y", "0.030 by 0.040", ", from 2024-05-01 to 2024-05-01")], {"a": "a,1714534200,1000,2000\na,1714579500,1030,2040\n"}),
     *((f"halves of the day that clocks say too, {title}", [], f"id,time,x,y,{title}\na,2024-05-01 00:30,1000,2000,{one}\na,2024-05-01 12:30,1030,2040,{other}\na,2024-05-01 23:30,,,\n".encode(),
        ["1 records have no coordinates: left out", *LINES, columns("id, time, x, y", "0.030 by 0.040", ", from 2024-05-01 to 2024-05-01"), f"not read: {title}"],
-       {"a": "a,1714523400,1000,2000\na,1714566600,1030,2040\n"}) for title, one, other in (("half", "AM", "pm"), ("AM/PM", "A", "P"), ("x5", "vorm.", "nachm."), ("is_pm", "0", "1"), ("isPM", "false", "TRUE"))),
+       {"a": "a,1714523400,1000,2000\na,1714566600,1030,2040\n"}) for title, one, other in (("half", "AM", "pm"), ("AM/PM", "A", "P"), ("x5", "vorm.", "nachm."), ("is_pm", "0", "1"), ("isPM", "false", "TRUE"), ("is_am", "1", "0"), ("isAM", "yes", "no"))),
     ("halves of the day that clocks of a zone say too", ["--tz", "Pacific/Auckland"], b"id,time,x,y,half\na,2024-05-01 11:59,1000,2000,AM\na,2024-05-01 12:00,1030,2040,PM\n",
      ["times are read as ISO text, in Pacific/Auckland", *LINES, columns("id, time, x, y", "0.030 by 0.040", ", from 2024-05-01 to 2024-05-01"), "not read: half"],
      {"a": "a,1714521540,1000,2000\na,1714521600,1030,2040\n"}),
@@ -504,11 +504,19 @@ READ = [
      {"a": "a,1714521600,1000,2000\na,1714608000,1030,2040\n"}),
     *((f"digits that say nothing of hours beside days, {title}", [], f"id,date,x,y,{title}\na,2024-05-01,1000,2000,{one}\na,2024-05-02,1030,2040,{other}\n".encode(),
        [*LINES, columns("id, date, x, y", "0.030 by 0.040", ", from 2024-05-01 to 2024-05-02"), f"not read: {title}"], {"a": "a,1714521600,1000,2000\na,1714608000,1030,2040\n"})
-      for title, one, other in (("time_to_fix", "45", "120"), ("collar", "1030", "1115"), ("gps_time", "1030", "9999"), ("release_time", "0930", "1015"))),
+      for title, one, other in (("time_to_fix", "45", "120"), ("time to fix", "130", "245"), ("time_interval", "0930", "1015"), ("collar", "1030", "1115"), ("gps_time", "1030", "9999"), ("release_time", "0930", "1015"))),
     ("seconds that say nothing beside times with seconds", [], b"id,time,x,y,sec\na,2024-05-01 01:30:05,1000,2000,5\na,2024-05-01 01:30:40,1030,2040,41\n",
      [*LINES, columns("id, time, x, y", "0.030 by 0.040", ", from 2024-05-01 to 2024-05-01"), "not read: sec"], {"a": "a,1714527005,1000,2000\na,1714527040,1030,2040\n"}),
     ("parts that are joined by their form", ["--time", "Tag,Monat,Jahr,Stunde", "--time-format", "%d %b %y %H"], b"id,Tag,Monat,Jahr,Stunde,x,y\na,1,May,24,6,1000,2000\n",
      ["times are read as %d %b %y %H, in UTC", *LINES, columns("id, Tag, Monat, Jahr, Stunde, x, y", "0.000 by 0.000", ", from 2024-05-01 to 2024-05-01")], {"a": "a,1714543200,1000,2000\n"}),
+    *((f"times of UTC under local_time beside {zone}", ["--tz", zone, "--time", "local_time"], b"id,local_time,x,y\na,2024-05-01T00:00:00Z,1000,2000\na,2024-05-02T00:00:00Z,1030,2040\n",
+       [*said, *LINES, columns("id, local_time, x, y", "0.030 by 0.040", ", from 2024-05-01 to 2024-05-02")], {"a": "a,1714521600,1000,2000\na,1714608000,1030,2040\n"})
+      for zone, said in (("UTC", []), ("Etc/UTC", ["times are read as ISO text, in Etc/UTC"]))),
+    ("a form that says UTC beside a name of it", ["--time-format", "%Y-%m-%d %H:%MZ", "--tz", "Etc/UTC"], b"id,date,x,y\na,2024-05-01 00:00Z,1000,2000\na,2024-05-02 00:00Z,1030,2040\n",
+     ["times are read as %Y-%m-%d %H:%MZ, in Etc/UTC", *LINES, columns("id, date, x, y", "0.030 by 0.040", ", from 2024-05-01 to 2024-05-02")], {"a": "a,1714521600,1000,2000\na,1714608000,1030,2040\n"}),
+    ("degrees of Argos with three decimals", ["--argos-class", "3", "--zone", "33N"], f"id,second,lon,lat,argos-lc\n{''.join(f'v,{at},15.5,46,3' + chr(10) for at in range(20))}".encode(),
+     ["longitude and latitude are projected into zone 33N; fixes by zone: 33N 20", "coordinates are rounded to whole metres, which moves a fix by at most 0.14 m",
+      columns("id, second, lon, lat, argos-lc", "0.000 by 0.000", " near 15.5 E 46.0 N, from second 0 to 19")], {"v": "".join(f"v,{at},538716,5094169\n" for at in range(20))}),
     ("columns that say nothing of hours beside days", [], b"id,date,x,y,HR (bpm),x_std,hour\na,2024-05-01,1000,2000,80,1.5,12\na,2024-05-02,1030,2040,95,2.5,12\n",
      [*LINES, columns("id, date, x, y", "0.030 by 0.040", ", from 2024-05-01 to 2024-05-02"), "not read: HR (bpm), x_std, hour"],
      {"a": "a,1714521600,1000,2000\na,1714608000,1030,2040\n"}),
