@@ -21,19 +21,33 @@ const WORDS: &str =
     "has halves of the day, and is not read: write them AM and PM and join it to the time, as by --time TIME,COLUMN with %p \
      in --time-format, or remove it";
 
-// Whether a second is behind noon by a clock.
-fn is_behind_noon(clock: &Clock, second: u64) -> bool {
-    match clock.local_second(second).checked_rem(DAY) {
-        Some(of_day) => NOON <= of_day,
-        None => false,
+// Whether the words of a title are those of a column that says which times are before noon.
+fn is_of_forenoon(title: &[u8]) -> bool {
+    let is_asked = has_word(title, &["is"]) && has_word(title, &["am"]);
+    (has_word(title, &["isam"]) || is_asked) && !has_word(title, &["pm"])
+}
+
+// Which half of the day the flags of a column say that are set: that behind noon, or that before it.
+#[derive(Clone, Copy)]
+struct Half {
+    is_behind_noon: bool,
+}
+
+impl Half {
+    // Whether a second is of this half by a clock.
+    fn has(self, clock: &Clock, second: u64) -> bool {
+        match clock.local_second(second).checked_rem(DAY) {
+            Some(of_day) => (NOON <= of_day) == self.is_behind_noon,
+            None => false,
+        }
     }
 }
 
-// Whether a flag says otherwise than a clock whether the fix of a row, if it has one, was behind noon.
-fn is_odd(clock: &Clock, row: &Row, flag: Flag) -> bool {
+// Whether a flag says otherwise than a clock whether the fix of a row, if it has one, was of a half of the day.
+fn is_odd(half: Half, clock: &Clock, row: &Row, flag: Flag) -> bool {
     match row.told {
         Told::Fix(fix) => {
-            flag == Flag::Missing || is_behind_noon(clock, fix.moment.second) != (flag == Flag::Set)
+            flag == Flag::Missing || half.has(clock, fix.moment.second) != (flag == Flag::Set)
         }
         Told::LeftOut(_) => false,
     }

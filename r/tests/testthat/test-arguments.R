@@ -91,7 +91,8 @@ test_that("each argument of each function is taken, or refused in one line by it
       NULL
     }, error = identity)
     text <- if (is.null(fault)) "" else conditionMessage(fault)
-    says <- any(vapply(c(argument, named[[argument]]), grepl, NA, text, fixed = TRUE))
+    pattern <- gsub("@", argument, "^@\\b|\\b@( ?[=:]| is | has | takes )|argument @$", fixed = TRUE)
+    says <- grepl(pattern, text, perl = TRUE) || any(vapply(named[[argument]], grepl, NA, text, fixed = TRUE))
     is_good <- is.null(fault) || inherits(fault, "homerange_error") && !grepl("\n", text) && nzchar(text) && (says || !value %in% wrong)
     if (!is_good) faults <- c(faults, paste0(name, ", ", argument, ", ", value, ": ", text))
   }
