@@ -516,7 +516,7 @@ READ = [
      ["times are read as %Y-%m-%d %H:%MZ, in Etc/UTC", *LINES, columns("id, date, x, y", "0.030 by 0.040", ", from 2024-05-01 to 2024-05-02")], {"a": "a,1714521600,1000,2000\na,1714608000,1030,2040\n"}),
     ("degrees of Argos with three decimals", ["--argos-class", "3", "--zone", "33N"], f"id,second,lon,lat,argos-lc\n{''.join(f'v,{at},15.5,46,3' + chr(10) for at in range(20))}".encode(),
      ["longitude and latitude are projected into zone 33N; fixes by zone: 33N 20", "coordinates are rounded to whole metres, which moves a fix by at most 0.14 m",
-      columns("id, second, lon, lat, argos-lc", "0.000 by 0.000", " near 15.5 E 46.0 N, from second 0 to 19")], {"v": "".join(f"v,{at},538716,5094169\n" for at in range(20))}),
+      columns("id, second, lon, lat", "0.000 by 0.000", " near 15.5 E 46.0 N, from second 0 to 19")], {"v": "".join(f"v,{at},538716,5094169\n" for at in range(20))}),
     ("columns that say nothing of hours beside days", [], b"id,date,x,y,HR (bpm),x_std,hour\na,2024-05-01,1000,2000,80,1.5,12\na,2024-05-02,1030,2040,95,2.5,12\n",
      [*LINES, columns("id, date, x, y", "0.030 by 0.040", ", from 2024-05-01 to 2024-05-02"), "not read: HR (bpm), x_std, hour"],
      {"a": "a,1714521600,1000,2000\na,1714608000,1030,2040\n"}),
