@@ -6,6 +6,7 @@ import math
 import os
 import tempfile
 from collections import Counter
+from dataclasses import replace
 from functools import cached_property
 from pathlib import Path
 from typing import TYPE_CHECKING, Any, Callable, Iterable, Mapping, NoReturn, Sequence
@@ -19,13 +20,13 @@ from ..errors import ReportError, check_file, is_several, path_of, refuse, shown
 from ..program import Program, checksum_of, find_program, program_of
 from ..read.fixes import Fixes, clock_of, is_of_fixes, reading_of
 from ..read.reading import ReadTable, has_calendar, read_again, read_table, tell, times_of
-from ..read.systems import crs_named
+from ..read.systems import crs_named, middle_outside
 from ..read.words import check_names
 from ..record import Record, difference_from_record, read_record
 from ..report import Corners, Percent, Report, Table, doubled_area, read as read_lines
 from ..units import UNITS, zone_of_time, zone_text
 from ..zones import text_of_crs
-from .groups import Group, check_by, group_tracks, is_period, labels_of, named_by, questions_of, said_of_period
+from .groups import Group, check_by, group_tracks, is_period, labels_of, named_by, questions_of, said_of_period, without_title
 from .growth import share
 from .outer import counts_within, polygon_kept
 from .overview import Facts, Row, facts_of, reasons_of, rows_of
@@ -463,8 +464,11 @@ def home_range(
             labels = labels_of(table, by)
             questions = said_of_period(table.fixes, by) if is_period(by) else questions_of(labels, Path(folder), program)
             tracks, groups = group_tracks(tracks, labels, questions)
-        own, files = reading_of(table.fixes), Path(folder) / "tracks"
-        tell([*table.said, *tracks.notes[len(own.notes):]])
+        own, files, said = reading_of(table.fixes), Path(folder) / "tracks", [*table.said]
+        new = tracks.notes[len(own.notes):]
+        if isinstance(by, str) and not is_period(by):
+            said, tracks = without_title(said, by), replace(tracks, notes=without_title(tracks.notes, by))
+        tell([*said, *new])
         made = files if files.is_dir() and by is None else None  # the files that the program made of these tracks
         report = Runs(found.path, tracks.by_name, ",".join(map(str, wanted)), own.unit, made, tracks.names).report(shown, jobs)
     ranges = HomeRanges(report, tracks, crs=own.system, tz=clock_of(table.fixes), program=found)
@@ -533,7 +537,26 @@ def ranges_of(report: Report, path: Path, files: Sequence[Path], crs: Any, tz: s
     ranges = HomeRanges(report, tracks_of_files(report, files), crs=crs, tz=tz, named=program)
     ranges.shift, ranges.record, ranges.checksum = shift, record, checksum_of(path)
     ranges.files, ranges.split = [*files], split
+    if crs is not None:
+        check_area(ranges, crs)
     return ranges
+
+
+def check_area(ranges: HomeRanges, crs: Any) -> None:
+    """Refuses ranges that lie far from where their reference system is made for, as those of tracks that were shifted do."""
+    west, south, east, north = ranges.box
+    middle, system = ((west + east) / 2, (south + north) / 2), crs_named(crs)
+    where = middle_outside(system, middle)
+    if where is None:
+        return
+    turned = middle[0] + 2 * ranges.shift[0], middle[1] + 2 * ranges.shift[1]
+    if any(ranges.shift) and ranges.record is None and middle_outside(system, turned) is None:
+        refuse(f"shift={ranges.shift} puts the ranges {where}: a shift is what was added, so write shift={tuple(-side for side in ranges.shift)}")
+    beside = next((split for split in (path.with_name("split.txt") for path in ranges.files) if split.is_file()), None)
+    named = "'tracks/split.txt'" if beside is None else repr(str(beside))
+    helps = "" if ranges.record is not None else (": were they shifted? name what was added, as the line shift of split.txt has it, as by "
+                                                  f"shift=(1000000, 0), or that file, as by record={named}")
+    refuse(f"crs: the ranges lie {where}{helps or ': name another one'}", "crs")
 
 
 def check_record(record: Record, report: Report, files: Iterable[Path]) -> None:
