@@ -430,6 +430,7 @@ def test_values_of_a_table_that_was_sorted_since_are_refused(dens):
         home_range(table, by=dens["k"])
     for by in ("k", table["k"], [*table["k"]], table["k"].rename("z"), dens["k"].reindex([0, 3, 1, 4, 2, 5]).to_numpy()):
         assert counted(home_range(table, by=by)) == WANTED_K
+    assert counted(home_range(table.assign(n=range(6)), by=[*"012345"])) == by_places(table, "012345")
     assert counted(home_range(table, by=table["time"].dt.day > 3)) == by_places(table, ["false"] * 3 + ["true"] * 3)
     # Values in the order of the rows of a table whose fixes have it are held to its columns too.
     fixes = read_fixes(dens.iloc[::-1].sort_values("animal", ascending=False, kind="stable").sort_values(["animal", "time"], ignore_index=True))

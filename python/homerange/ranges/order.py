@@ -4,7 +4,7 @@ which are refused. docs/TABLES.md, Filters."""
 from __future__ import annotations
 
 from collections import Counter
-from typing import Any, Iterator
+from typing import Any
 
 import pandas
 
@@ -44,7 +44,7 @@ def check_order(by: Any, values: pandas.Series, frame: pandas.DataFrame) -> None
         return
     if is_series and not by.index.equals(pandas.RangeIndex(count)):
         refuse_labels(by, len(frame))
-    turned = next(titles_turned(values, rows), None)
+    turned = title_turned(values, rows)
     if turned is not None:
         refuse(f"by: the values are those of the column '{one_line(turned)}' of the table in another order than that of its rows: name it, as "
                f"by by={turned!r}, or make others a column of the table, as by frame.assign(group=..), and by='group'")
@@ -67,10 +67,15 @@ def refuse_labels(by: pandas.Series, count: int) -> None:
            "of the table, and name that; if its labels are those of the rows, by.reindex(frame.index) goes by them")
 
 
-def titles_turned(values: pandas.Series, rows: pandas.DataFrame) -> Iterator[str]:
-    """The titles of columns that have values, each as often, in another order."""
-    own = Counter(cells_of(values))
+def title_turned(values: pandas.Series, rows: pandas.DataFrame) -> str | None:
+    """The title of a column that has values, each as often, in another order, where none has them in this one."""
+    own = cells_of(values)
+    counts, found = Counter(own), None
     for at, title in enumerate(rows.columns):
         column = rows.iloc[:, at]
-        if str(column.dtype) != "geometry" and Counter(cells_of(column)) == own:
-            yield str(title)
+        cells = [] if str(column.dtype) == "geometry" else cells_of(column)
+        if cells == own:
+            return None
+        if found is None and Counter(cells) == counts:
+            found = str(title)
+    return found
