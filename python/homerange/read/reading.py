@@ -384,7 +384,7 @@ def fixes_of(whole: Whole, record: Record, folder: Path, tz: str | None, crs: An
     fixes = Fixes({"animal": whole.per_fix(names), **when, "easting": east, "northing": north})
     middles = {name: (float(east[part].mean()), float(north[part].mean())) for name, part in zip(names, parts_of(whole.counts))}
     said = [as_arguments(in_words(line)) for line in record.said]
-    shown = [*notes, *said, *scales_said(crs, record.zone, middles), *encoding_asked(names)]
+    shown = [*notes, *said, *scales_said(crs, record.zone, middles), *encoding_asked(whole.names)]
     fixes.reading = Reading(
         record.unit, record.zone, crs, clock, record.shift, tuple(shown), left_out(record, own), dict(zip(names, whole.counts)),
         {name: file for file, name in own.items()}, (folder / "tracks" / "split.txt").read_bytes())
