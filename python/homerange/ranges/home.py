@@ -434,9 +434,8 @@ def home_range(
         of all, of fixes as near the earlier.
     by: makes a range of each group of an animal's fixes: of a 'year', a 'month' ('2024-05') or a 'season' of a year, by the
         clock of the fixes; of a column of the frame, or of the fixes; of values, one for each fix, or for each row of a frame (a
-        Series goes by its index; a list beside fixes that were read is refused where it may be of the rows of their table); or of
-        what a function of the fixes answers. Seasons are those of meteorology and are named by
-        their months, '2024 Jun-Aug', and '2023-2024 Dec-Feb' for a December with the months behind it. Moments name groups as
+        Series goes by its index; values that may be of other rows, as of a frame that was sorted since, are refused); or of what
+        a function of the fixes answers. Seasons are those of meteorology and are named by their months, '2024 Jun-Aug', and '2023-2024 Dec-Feb' for a December with the months behind it. Moments name groups as
         their own clock shows them, and by days where all are midnights.
     program: the program; if left out, that in the environment as HOMERANGE, the package's own, that of the clone that the
         package is in, or homerange on PATH (README.md, Which program runs).
@@ -499,7 +498,8 @@ def read_report(
     path: the report. One that is cut off, or whose lines are not those of a report, is refused (ReportError).
     files: the files that it was made from, for polygons below 100 per cent and for pictures with fixes. Files with
         other times of fixes, or another polygon of all, than the report are refused (ReportError).
-    crs: the reference system of the coordinates in metres, such as 'EPSG:32633'; if left out, that of the record.
+    crs: the reference system of the coordinates in metres, such as 'EPSG:32633'; if left out, that of the record. Ranges far from
+        where it is used are refused, as those of tracks that were shifted are without their shift.
     shift: how many metres were added to eastings and northings, as the line shift of split.txt has it; they are taken off
         in the answers.
     tz: the time zone of the times in the answers, where the seconds of the files are those since 1970 in UTC.
