@@ -30,8 +30,8 @@ check_turned <- function(x, by, expression, where) {
   other <- Filter(function(call) is_of_other(call, columns, where), columns_in(expression))
   if (length(other)) {
     title <- as.character(other[[1]][[3]])
-    refuse("option", "by is made of ", deparse(other[[1]]), ", and the column of that title says otherwise: by = \"", title, "\" takes the column; if ",
-           "other values are meant, make them a column of the table, as by x$group <- .., and by = \"group\"")
+    refuse("option", "by is made of ", deparse(other[[1]]), ", and the column of that title says otherwise: by = \"", title, "\" takes the column; ",
+           "if other values are meant, make them a column of the table, as by x$group <- .., and by = \"group\"")
   }
   if (!is.null(names(by)) && setequal(names(by), labels)) {
     refuse("option", "by has the names of rows in another order, so that nobody knows of which each value is: unname(by) goes by the places of ",
