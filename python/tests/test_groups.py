@@ -460,6 +460,12 @@ def test_a_series_of_other_rows_that_are_counted_from_zero_is_refused(dens):
     assert counted(home_range(rest, by=both["k"])) == counted(home_range(rest, by=both["k"].rename(None).str.lower())) == by_places(rest, rest["k"])
     with pytest.raises(FrameError, match=NAMED_K):
         home_range(rest.reset_index(drop=True), by=both["k"])
+    fixes = read_fixes(dens)
+    for table in (dens, fixes):
+        assert counted(home_range(table[table["k"] == "out"], by=table["k"].str.upper())) == {("boar", "OUT"): 3}
+    # But not what such a column has in other rows.
+    with pytest.raises(FrameError, match=NAMED_K):
+        home_range(dens.iloc[1:], by=dens.sort_values("time", ignore_index=True)["k"])
 
 
 def test_labels_of_another_order_beside_rows_that_are_counted_from_zero_are_refused(dens):

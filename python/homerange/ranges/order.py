@@ -24,10 +24,10 @@ def is_column_of(frame: pandas.DataFrame, values: pandas.Series) -> bool:
 
 def rows_without_labels(frame: pandas.DataFrame) -> int | None:
     """How many rows a table has whose labels tell no row from that of another table; None where they tell. Fixes may have the labels of
-    the table that they were read from."""
+    the table that they were read from; those that were chosen among them keep labels that tell."""
     reading = reading_of(frame) if isinstance(frame, Fixes) and is_known(frame) else None
     if reading is not None and has_labels(frame, reading):
-        return reading.rows_counted
+        return reading.rows_counted if len(frame) == sum(reading.counts.values()) else None
     return rows_counted(frame.index)
 
 
@@ -35,12 +35,12 @@ def check_order(by: Any, values: pandas.Series, frame: pandas.DataFrame) -> None
     """Refuses values, which were found for the rows of a frame by what was given, if they may be of other rows."""
     is_series = isinstance(by, pandas.Series)
     count = rows_without_labels(frame)
-    if is_series and (count is None or by.index.is_(frame.index)):
+    if is_series and by.index.is_(frame.index):
         return
     rows = with_named_levels(frame)
     if is_series:
-        check_name(by, values, rows, "" if by.index.equals(frame.index) else BY_LABELS)
-    if is_column_of(rows, values):
+        check_name(by, values, rows, count is None)
+    if is_series and count is None or is_column_of(rows, values):
         return
     if is_series and not by.index.equals(pandas.RangeIndex(count)):
         refuse_labels(by, len(frame))
@@ -50,10 +50,14 @@ def check_order(by: Any, values: pandas.Series, frame: pandas.DataFrame) -> None
                f"by by={turned!r}, or make others a column of the table, as by frame.assign(group=..), and by='group'")
 
 
-def check_name(by: pandas.Series, values: pandas.Series, rows: pandas.DataFrame, more: str) -> None:
-    """Refuses a series with the title of a column that has other values, with what else helps."""
+def check_name(by: pandas.Series, values: pandas.Series, rows: pandas.DataFrame, has_labels_that_tell: bool) -> None:
+    """Refuses a series with the title of a column that has other values; where labels tell, as long as they are those of the column in
+    other rows, and nothing else that is made of it."""
     same = [rows.iloc[:, at] for at, title in enumerate(rows.columns) if title == by.name]
-    if len(same) == 1 and not are_alike(values, same[0]).all():
+    if len(same) != 1 or are_alike(values, same[0]).all():
+        return
+    if not has_labels_that_tell or values.isin(same[0]).all():
+        more = "" if by.index.equals(values.index) else BY_LABELS
         refuse(f"by is a Series named {by.name!r}, and the column of that title says otherwise: by={by.name!r} takes the column; if other "
                f"values are meant, {BY_PLACES}{more}")
 
