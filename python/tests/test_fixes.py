@@ -1,6 +1,7 @@
 """Fixes that were read: which rows of a frame they are, what they say, and that they can be chosen, sorted and bound."""
 import datetime
 import pickle
+import re
 import warnings
 from decimal import Decimal
 from pathlib import Path
@@ -399,3 +400,49 @@ def test_options_of_times_of_fixes_that_have_none(splitter, name, value):
         with pytest.raises(FrameError) as caught:
             read_fixes(fixes, **{name: value})
     assert str(caught.value) == f"{name}: these fixes have no time, but the order of rows: name its column, by time, where the table is read"
+
+
+def test_a_level_of_the_index_has_its_own_name_in_what_is_said():
+    times = pandas.DatetimeIndex([pandas.NaT, *pandas.date_range("2024-01-01", periods=3, freq="6h")], name="when")
+    frame = pandas.DataFrame({"animal": "fox", "easting": [0, 900, 0, 9], "northing": [0, 0, 900, 9]}, index=times)
+    with pytest.raises(FrameError, match=r"^row NaT \(frame.iloc\[0\]\): there is no when: leave rows without one out, as by frame\[frame.index.notna\(\)\]$"):
+        read_fixes(frame)
+    with pytest.warns(HomeRangeInfo, match="^columns: animal, when, easting, northing; "):
+        assert len(read_fixes(frame[frame.index.notna()])) == 3
+    both = frame.set_index("animal", append=True).swaplevel()
+    with pytest.raises(FrameError, match=r"there is no when: .* as by frame\[frame.index.get_level_values\('when'\).notna\(\)\]$"):
+        read_fixes(both)
+    assert len(read_fixes(both[both.index.get_level_values("when").notna()])) == 3
+    old = frame.set_axis(pandas.DatetimeIndex(["1960-01-01"] * 4, name="when"))
+    with pytest.raises(FrameError, match=r"when is '1960-01-01', which is no time since 1970"):
+        read_fixes(old)
+
+
+@pytest.mark.parametrize("more, names", [([], "['animal']"), (["z"], "['animal', 'z']")])
+def test_an_index_of_animals_without_a_name_gets_one(more, names):
+    index = [[*"abab"], *([*range(4)] for _ in more)]
+    frame = pandas.DataFrame({"time": pandas.date_range("2024-01-01", periods=4, freq="6h", tz="UTC"), "easting": [0, 900, 0, 9], "northing": [0, 0, 900, 9]})
+    frame.index = pandas.MultiIndex.from_arrays(index, names=[None, *more]) if more else pandas.Index(index[0])
+    with pytest.raises(FrameError, match=re.escape(f"if they are the animals, name it, as by frame.index.names = {names}") + "$"):
+        read_fixes(frame)
+    frame.index.names = ["animal", *more]
+    assert {*read_fixes(frame)["animal"]} == {"a", "b"}
+
+
+def test_a_record_in_brackets_is_a_row_by_its_label():
+    frame = pandas.DataFrame({"animal": "fox", "time": [f"2024-07-01 0{hour}:00:00" for hour in range(4)], "dst": [1, 1, 0, 1],
+                              "easting": [0, 900, 0, 9], "northing": [0, 0, 900, 9]})
+    with pytest.raises(FrameError, match=r"^column 3 'dst' says otherwise than the clock of Europe/Ljubljana .* \(row 2\): "):
+        read_fixes(frame, tz="Europe/Ljubljana")
+    with pytest.raises(FrameError, match=r"^column 3 'dst' says otherwise than the clock of Europe/Ljubljana .* \(row r2, frame.iloc\[2\]\): "):
+        read_fixes(frame.set_axis([f"r{at}" for at in range(4)]), tz="Europe/Ljubljana")
+
+
+def test_names_with_control_characters_are_asked_about(tmp_path):
+    text = "animal,time,easting,northing\n" + "".join(f"\u0160a\u0161a,2024-01-0{day},{9 * day},0\n" for day in (1, 2))
+    (tmp_path / "own.csv").write_bytes(text.encode("cp1250"))
+    said = r"^the name '\\x8aa\\x9aa' has control characters: is the encoding of its table another, such as windows-1250\?$"
+    for read in (lambda: read_fixes(tmp_path / "own.csv", encoding="latin-1"), lambda: read_fixes(pandas.read_csv(tmp_path / "own.csv", encoding="latin-1"))):
+        with pytest.warns(HomeRangeNote, match=said):
+            read()
+    assert {*read_fixes(tmp_path / "own.csv", encoding="windows-1250")["animal"]} == {"\u0160a\u0161a"}  # a note would be a fault

@@ -390,3 +390,153 @@ def test_a_period_that_a_file_has_as_a_column_is_said_to_be_of_the_calendar(spli
     home_range(tmp_path / "other.csv", 100, by=by)  # a note would be a fault
     with pytest.raises(FrameError, match=f"^by='{by}' is a period of the calendar, and a column too"):
         home_range(frame.assign(**{by: "rut"}), 100, by=by)
+
+
+def by_places(table, by):
+    """How many fixes each animal's groups have."""
+    return {key: len(own) for key, own in table.assign(group=[*by]).groupby(["animal", "group"])}
+
+
+def counted(ranges):
+    table = ranges.summary()
+    return {(row.animal, row.group): row.fixes for row in table[table["level"] == 100].itertuples()}
+
+
+@pytest.fixture
+def dens():
+    """Three fixes of a fox in its den and three of a boar that is out, by animals: in the order of times they take turns."""
+    times = pandas.to_datetime([f"2024-01-0{day}" for day in (1, 3, 5, 2, 4, 6)], utc=True)
+    return pandas.DataFrame({"animal": ["fox"] * 3 + ["boar"] * 3, "k": ["den"] * 3 + ["out"] * 3, "time": times,
+                             "easting": [0, 900, 0, 5000, 5900, 5000], "northing": [0, 0, 900, 0, 0, 900]})
+
+
+NAMED_K = ("^by is a Series named 'k', and the column of that title says otherwise: by='k' takes the column; if other values are meant, "
+           "by.to_numpy\\(\\) goes by the places of values(, and by.reindex\\(frame.index\\) by their labels)?$")
+TURNED_K = ("^by: the values are those of the column 'k' of the table in another order than that of its rows: name it, as by by='k', or make "
+            "others a column of the table, as by frame.assign\\(group=..\\), and by='group'$")
+WANTED_K = {("fox", "den"): 3, ("boar", "out"): 3}
+
+
+def test_values_of_a_table_that_was_sorted_since_are_refused(dens):
+    table = dens.sort_values("time", ignore_index=True)
+    for own in (table, read_fixes(table)):
+        for by, said in ((dens["k"], NAMED_K), (dens["k"].str.upper(), NAMED_K)):
+            with pytest.raises(FrameError, match=f"{said}|^by: it is not known which"):
+                home_range(own, by=by)
+    for by in (dens["k"].rename(None), dens["k"].rename("z"), dens["k"].to_numpy(), [*dens["k"]], tuple(dens["k"]), dens["k"].astype("category").array):
+        with pytest.raises(FrameError, match=TURNED_K):
+            home_range(table, by=by)
+    with pytest.raises(FrameError, match=NAMED_K):
+        home_range(table, by=dens["k"])
+    for by in ("k", table["k"], [*table["k"]], table["k"].rename("z"), dens["k"].reindex([0, 3, 1, 4, 2, 5]).to_numpy()):
+        assert counted(home_range(table, by=by)) == WANTED_K
+    assert counted(home_range(table.assign(n=range(6)), by=[*"012345"])) == by_places(table, "012345")
+    assert counted(home_range(table, by=table["time"].dt.day > 3)) == by_places(table, ["false"] * 3 + ["true"] * 3)
+    # Values in the order of the rows of a table whose fixes have it are held to its columns too.
+    fixes = read_fixes(dens.iloc[::-1].sort_values("animal", ascending=False, kind="stable").sort_values(["animal", "time"], ignore_index=True))
+    with pytest.raises(FrameError, match=TURNED_K):
+        home_range(fixes, by=[*dens["k"]])
+
+
+def test_what_is_meant_may_be_said_of_a_series(dens):
+    table = dens.sort_values("time", ignore_index=True)
+    by = dens["k"].str.upper()
+    assert counted(home_range(table, by=by.to_numpy())) == by_places(table, by)
+    assert counted(home_range(table, by=by.set_axis([3, 1, 4, 2, 5, 0]).reindex(table.index))) == by_places(table, by.iloc[[5, 1, 3, 0, 2, 4]])
+    assert counted(home_range(dens, by=table["k"].str.upper().set_axis([0, 3, 1, 4, 2, 5]).reindex(dens.index))) == {
+        ("fox", "DEN"): 3, ("boar", "OUT"): 3}
+
+
+def test_a_series_of_other_rows_that_are_counted_from_zero_is_refused(dens):
+    longer = pandas.Series([*"aabbccddeeff"])
+    said = "^by is a Series of 12 values for 6 rows, which are counted from 0 as those of another table are: make it a column of the table"
+    for table in (dens, read_fixes(dens)):
+        with pytest.raises(FrameError, match=said):
+            home_range(table, by=longer)
+    both = pandas.concat([dens, dens.assign(animal=dens["animal"] + " 2", k="in")], ignore_index=True)
+    assert counted(home_range(both.iloc[:6], by=both["k"])) == WANTED_K
+    # Labels that are kept through a filter tell.
+    rest = both[both["animal"] != "fox"]
+    assert counted(home_range(rest, by=both["k"])) == counted(home_range(rest, by=both["k"].rename(None).str.lower())) == by_places(rest, rest["k"])
+    with pytest.raises(FrameError, match=NAMED_K):
+        home_range(rest.reset_index(drop=True), by=both["k"])
+    fixes = read_fixes(dens)
+    for table in (dens, fixes):
+        assert counted(home_range(table[table["k"] == "out"], by=table["k"].str.upper())) == {("boar", "OUT"): 3}
+    # But not what such a column has in other rows.
+    with pytest.raises(FrameError, match=NAMED_K):
+        home_range(dens.iloc[1:], by=dens.sort_values("time", ignore_index=True)["k"])
+
+
+def test_labels_of_another_order_beside_rows_that_are_counted_from_zero_are_refused(dens):
+    mixed = dens.iloc[[3, 0, 4, 1, 5, 2]]
+    plain = mixed.reset_index(drop=True)
+    for table in (plain, read_fixes(plain)):
+        with pytest.raises(FrameError, match=NAMED_K):
+            home_range(table, by=mixed["k"])
+        with pytest.raises(FrameError, match="^by is a Series whose labels are 0, 1, 2, .. in another order, and rows are counted from 0 too, so that"
+                                             " nobody knows of which each value is: by.to_numpy"):
+            home_range(table, by=mixed["k"].rename(None).str.upper())
+    for table in (mixed, read_fixes(mixed), dens):
+        assert counted(home_range(table, by=mixed["k"])) == counted(home_range(table, by=dens["k"])) == WANTED_K
+    for table in (mixed, read_fixes(mixed)):
+        assert counted(home_range(table, by=mixed["k"].str.upper())) == {("fox", "DEN"): 3, ("boar", "OUT"): 3}
+
+
+def test_values_by_the_names_of_animals_are_mapped(dens):
+    by = pandas.DataFrame({"animal": ["boar", "fox"], "sex": ["m", "f"]}).set_index("animal")["sex"]
+    for table in (dens, read_fixes(dens)):
+        with pytest.raises(FrameError, match="^by is a Series whose labels are those of the column 'animal', and not of the rows: a column has it "
+                                             "for each fix, as by frame\\['animal'\\].map\\(by\\)$"):
+            home_range(table, by=by)
+        assert counted(home_range(table, by=table["animal"].map(by))) == {("fox", "f"): 3, ("boar", "m"): 3}
+
+
+@pytest.mark.parametrize("by, said", [
+    (["year", "month"], "by names 2 columns or periods: write by='month', which has year too"),
+    (["season", "year"], "by names 2 columns or periods: write by='season', which has year too"),
+    (["k", "year"], "by names 2 columns or periods: join them, as by lambda fixes: fixes['k'].astype(str) + ' ' + fixes['time'].dt.strftime('%Y')"),
+    (("k", "season"), "by names 2 columns or periods: write by='season' for fixes of one k alone, as by fixes[fixes['k'] == ..]"),
+    (numpy.array(["animal", "k"]), "by names 2 columns: join them, as by fixes['animal'].astype(str) + ' ' + fixes['k'].astype(str)"),
+    (["k", "sex"], "by: there is no column 'sex', and it is none of 'year', 'month', 'season'"),
+    (["year"], "by is a list of 1 text: write by='year'"),
+    ("K", "by: there is no column 'K', and it is none of 'year', 'month', 'season'; the column 'k' differs from it in capitals alone: write it so")])
+def test_titles_and_periods_in_a_list_are_refused_with_what_helps(dens, by, said):
+    with pytest.raises(FrameError, match=f"^{re.escape(said)}$"):
+        home_range(dens, by=by)
+
+
+def test_a_year_beside_a_column_is_joined_as_it_is_said(dens):
+    ranges = home_range(dens, by=lambda fixes: fixes["k"].astype(str) + " " + fixes["time"].dt.strftime("%Y"))
+    assert counted(ranges) == {("fox", "den 2024"): 3, ("boar", "out 2024"): 3}
+
+
+@pytest.mark.parametrize("title, wanted, what", [
+    ("La\u0308nge", "L\u00e4nge", "the form of letters"), ("k\u00a0x", "k x", "blanks or signs that are not seen"),
+    ("k\u200b", "k", "blanks or signs that are not seen")])
+def test_titles_that_look_alike_are_told_apart(dens, title, wanted, what):
+    table, said = dens.rename(columns={"k": title}), re.escape(f"; the column {ascii(title)} differs from it in {what} alone: write it so")
+    with pytest.raises(FrameError, match=f"^by: there is no column '{wanted}', .*{said}$"):
+        home_range(table, by=wanted)
+    with pytest.raises(FrameError, match=f"^easting: there is no column '{wanted}'; the table has .*{said}$"):
+        read_fixes(table, easting=wanted, northing="northing")
+
+
+def test_a_column_of_groups_is_not_said_to_be_not_read(dens):
+    for more, wanted in (({}, []), ({"note": 1}, ["not read: note"])):
+        with warnings.catch_warnings(record=True) as said:
+            warnings.simplefilter("always")
+            ranges = home_range(dens.assign(**more), by="k")
+        assert [str(each.message) for each in said if str(each.message).startswith("not read")] == wanted
+        assert [note for note in ranges.notes if note.startswith("not read")] == wanted
+
+
+def test_a_period_in_other_capitals_is_a_column_too(dens, tmp_path):
+    table = dens.rename(columns={"k": "Season"})
+    for own in (table, read_fixes(table)):
+        with pytest.raises(FrameError, match="^by='season' is a period of the calendar, and the column 'Season' too: by=fixes\\['Season'\\] takes"):
+            home_range(own, by="season")
+        assert counted(home_range(own, by="Season")) == counted(home_range(own, by=own["Season"])) == WANTED_K
+    table.to_csv(tmp_path / "own.csv", index=False)
+    with pytest.warns(HomeRangeNote, match="^ranges are by the season of the calendar, and not by the column 'Season' of the file"):
+        home_range(tmp_path / "own.csv", by="season")

@@ -16,6 +16,7 @@ from homerange.program import find_program
 from homerange.ranges.outer import kept_of, outer_fixes, polygon_kept
 from homerange.report import kept_places, read
 from homerange.ranges.rows import rows_in
+from homerange.read.call import split_table
 
 TRACKS = {"vixen": cloud(7, 40), "old boar": cloud(8, 11)}
 
@@ -310,8 +311,33 @@ def test_what_the_record_says_otherwise_is_refused(folder, tmp_path):
             read(crs=crs)
     with pytest.raises(FrameError, match=r"^shift=\(1000000, 0\) is not \(0, 0\), by which split.txt has coordinates shifted: leave shift out$"):
         read(shift=(1_000_000, 0))
-    own.write_text(own.read_text("utf-8").replace("\nzone,33N\n", "\nzone,none\nshift,1000000,0\n"), "utf-8")
-    assert read(shift=(1_000_000, 0)).shift == read().shift == (1_000_000, 0) and read(crs=3035).crs == 3035
+    own.write_text(own.read_text("utf-8").replace("\nzone,33N\n", "\nzone,none\nshift,-4000000,2000000\n"), "utf-8")
+    assert read(shift=(-4_000_000, 2_000_000)).shift == read().shift == (-4_000_000, 2_000_000) and read(crs=3035).crs == 3035
+
+
+def test_a_report_of_tracks_that_were_shifted_lies_where_its_system_is(splitter, tmp_path, monkeypatch):
+    """Prague by Krovak's grid, of which both axes are below 0: the program adds 1000 km to the east, and 2000 km to the north."""
+    pytest.importorskip("pyproj")
+    places = [(-744_000, -1_044_000), (-743_500, -1_044_000), (-743_500, -1_043_500), (-744_000, -1_043_500)]
+    rows = "".join(f"fox,{60 * at},{east},{north}\n" for at, (east, north) in enumerate(places))
+    (tmp_path / "own.csv").write_text(f"animal,second,x,y\n{rows}", "utf-8")
+    monkeypatch.chdir(tmp_path)
+    split_table("own.csv", "tracks", [], splitter)
+    report = report_of([tmp_path / "tracks" / "fox.csv"])
+    read = functools.partial(read_report, report, crs=5514)
+    for more in ({"shift": (1_000_000, 2_000_000)}, {"record": "tracks/split.txt"}):
+        assert read(**more).box == (-744_000, -1_044_000, -743_500, -1_043_500)
+    where = "the ranges lie near [0-9.]+ E [0-9.]+ N, and S-JTSK / Krovak East North is of 12.1 E to 22.6 E, 47.7 N to 51.1 N"
+    helps = "were they shifted[?] name what was added, as the line shift of split.txt has it, as by shift=\\(1000000, 0\\), or that file, as by record="
+    with pytest.raises(FrameError, match=f"^crs: {where}: {helps}'tracks/split.txt'$"):
+        read()
+    with pytest.raises(FrameError, match=f"^crs: {where}: {helps}'{re.escape(str(tmp_path))}/tracks/split.txt'$"):
+        read(files=[tmp_path / "tracks" / "fox.csv"])
+    with pytest.raises(FrameError, match="^shift=\\(-1000000, -2000000\\) puts the ranges near .*: a shift is what was added, so write shift=\\(1000000, 2000000\\)$"):
+        read(shift=(-1_000_000, -2_000_000))
+    with pytest.raises(FrameError, match="^shift=\\(-1000000, -2000000\\) is not \\(1000000, 2000000\\), by which split.txt has coordinates shifted"):
+        read(shift=(-1_000_000, -2_000_000), record="tracks/split.txt")
+    assert read(crs=None).box[0] == 256_000
 
 
 def test_what_is_no_system_of_a_report(files):

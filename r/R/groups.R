@@ -73,52 +73,6 @@ labels_of <- function(fixes, by, frame = NULL, is_file = FALSE) {
   check_labels(text_of_groups(values_of(by, nrow(fixes), "fixes")), seq_len(nrow(fixes)))
 }
 
-# Refuses values for each of fixes that were read, where these may be values of the rows of their table: the program sorts rows, and
-# leaves some out. Sure are values of which the call says that they are made of these fixes, and such as a column of these has.
-check_order <- function(x, by, is_made) {
-  fixes <- as_fixes(x)
-  if (inherits(by, "POSIXlt")) by <- as.POSIXct(by)
-  if (is.null(by) || is_made || !is.atomic(by) || is_text(by) || !is_fixes(fixes) || length(by) != nrow(fixes)) return(invisible())
-  is_column <- vapply(as.list(fixes), function(column) identical(as.vector(column), as.vector(by)), NA)
-  if (any(is_column) || are_rows_of_table(fixes)) return(invisible())
-  refuse("option", "by: it is not known which of the fixes each value is of, since these may stand in another order than the rows that ",
-         "were read, or be fewer: make the values a column of that table before read_fixes, or, if they were made of these fixes, ",
-         "a column of these, as by fixes$group <- .., and name it, as by by = \"group\"")
-}
-
-# Refuses values that are those of a column of a table in another order than that of its rows, as of a table that was sorted since: in the
-# order of its names of rows, or under the title of that column.
-check_turned <- function(x, by, expression) {
-  if (!is.data.frame(x) || is_fixes(as_fixes(x)) || !is.atomic(by) || length(by) != nrow(x) || length(by) < 2) return(invisible())
-  columns <- Filter(is.atomic, columns_of(x))
-  is_by <- function(column) identical(as.vector(column), as.vector(by))
-  rows <- attr(x, "row.names")
-  before <- if (is.integer(rows) && is.unsorted(rows)) order(rows)
-  named <- if (is.call(expression) && as.character(expression[[1]])[1] %in% c("$", "[[")) as.character(expression[[3]])[1]
-  is_turned <- function(title) {
-    column <- columns[[title]]
-    length(before) && is_by(column[before]) || title %in% named && identical(sort(as.vector(column)), sort(as.vector(by)))
-  }
-  turned <- if (!any(vapply(columns, is_by, NA))) Filter(is_turned, names(columns))
-  if (length(turned)) {
-    refuse("option", "by: the values are those of the column '", turned[1], "' of the table in another order than that of its rows: name it, as by ",
-           "by = \"", turned[1], "\"")
-  }
-}
-
-# Whether an expression is made of one variable alone, which is the table.
-is_made_of <- function(table, expression) {
-  is.symbol(table) && identical(unique(variables_of(expression)), as.character(table))
-}
-
-# The variables of an expression, but for the titles behind a dollar sign.
-variables_of <- function(expression) {
-  if (is.symbol(expression)) return(setdiff(as.character(expression), ""))
-  if (!is.call(expression)) return(NULL)
-  is_part <- is.symbol(expression[[1]]) && as.character(expression[[1]]) %in% c("$", "@", "::", ":::")
-  unlist(lapply(as.list(expression)[if (is_part) 2 else -1], variables_of))
-}
-
 # Refuses the title of a column of a file, of which fixes keep none but their own.
 check_kept <- function(by, fixes, is_file) {
   facts <- facts_of(fixes)
@@ -128,14 +82,38 @@ check_kept <- function(by, fixes, is_file) {
   }
 }
 
-# Refuses a text that is the title of no column, and titles of several.
+# Refuses a text that is the title of no column, and titles of several, periods among them.
 check_titles <- function(by, fixes) {
-  if (is_text(by) && nrow(fixes) > 1) {
-    refuse("columns", "by: there is no column \"", by, "\", and it is none of ", paste0("\"", names(periods), "\"", collapse = ", "))
+  if (is_text(by) && nrow(fixes) > 1) refuse_title(by, names(fixes))
+  if (!is.character(by) || length(by) < 2 || anyDuplicated(by) || anyNA(by)) return(invisible())
+  others <- setdiff(by, names(fixes))
+  if (!length(others)) refuse("option", "by names ", length(by), " columns: join them, as by ", joined_texts(by))
+  if (length(by) == nrow(fixes) || !any(by %in% c(names(fixes), names(periods)))) return(invisible())
+  unknown <- setdiff(others, names(periods))
+  if (length(unknown)) refuse_title(unknown[1], names(fixes))
+  refuse("option", "by names ", length(by), " columns or periods: ", help_for_periods(by, others))
+}
+
+# Refuses the title of no column, with that of these which looks like it.
+refuse_title <- function(by, titles) {
+  refuse("columns", "by: there is no column \"", by, "\", and it is none of ", paste0("\"", names(periods), "\"", collapse = ", "), like_title(by, titles))
+}
+
+# How the texts of columns, or of years and months, are joined.
+joined_texts <- function(titles) {
+  forms <- c(year = "%Y", month = "%Y-%m")[titles]
+  paste0("paste(", paste(ifelse(is.na(forms), paste0("fixes$", titles), sprintf("format(fixes$time, \"%s\")", forms)), collapse = ", "), ")")
+}
+
+# What helps where several titles are wanted, some of which are periods: months and seasons are those of a year.
+help_for_periods <- function(titles, own) {
+  if (length(own) == length(titles)) {
+    finest <- if ("month" %in% own) "month" else "season"
+    return(paste0("write by = \"", finest, "\", which has ", paste(setdiff(own, finest), collapse = " and "), " too"))
   }
-  if (is.character(by) && length(by) > 1 && !anyDuplicated(by) && all(by %in% names(fixes))) {
-    refuse("option", "by names ", length(by), " columns: join them, as by paste(", paste0("fixes$", by, collapse = ", "), ")")
-  }
+  if (!"season" %in% own) return(paste0("join them, as by function(fixes) ", joined_texts(titles)))
+  other <- setdiff(titles, own)[1]
+  paste0("write by = \"season\" for fixes of one ", other, " alone, as by fixes[fixes$", other, " == .., ]")
 }
 
 # A value for each of so many rows or fixes.
@@ -151,7 +129,7 @@ values_of <- function(by, number, what) {
   }
   if (is.list(by) && length(by) && all(vapply(by, is_text, NA))) {
     refuse("option", "by is a list of ", count_of(length(by), "text"), ": ", if (length(by) == 1) paste0("write by = \"", by[[1]], "\"") else
-      paste0("join the columns, as by paste(", paste0("x$", unlist(by), collapse = ", "), ")"))
+      paste0("write a vector, as by c(", paste0("\"", unlist(by), "\"", collapse = ", "), ")"))
   }
   if (is.list(by) || is.language(by) || is.environment(by)) {
     refuse("option", argument_text("by", by), " is none of ", paste0("\"", names(periods), "\"", collapse = ", "),
@@ -159,6 +137,17 @@ values_of <- function(by, number, what) {
   }
   if (length(by) != number) refuse("option", "by is ", count_of(length(by), "value"), " for ", number, " ", what)
   by
+}
+
+# Refuses values with the names of animals, or with those of another column, which are fewer or more than rows.
+check_names_of_values <- function(by, x) {
+  if (is.null(names(by)) || length(by) == nrow(x) || !is.data.frame(x)) return(invisible())
+  own <- Filter(function(column) is.character(column) || is.factor(column), columns_of(x))
+  title <- names(own)[vapply(own, function(column) all(as.character(column) %in% names(by)), NA)]
+  if (length(title)) {
+    refuse("option", "by has names that are those of the column '", title[1], "', and not a value for each row: a column has it for each fix, as by ",
+           if (is.list(by)) "unlist(by)" else "by", "[as.character(x$", title[1], ")]")
+  }
 }
 
 # Groups as text; what is no name of one is missing.
@@ -223,19 +212,33 @@ named_by <- function(by, call) {
 
 is_period <- function(by) is_text(by) && by %in% names(periods)
 
-# Refuses a period that is the title of a column too.
+# Refuses a period that is the title of a column too, in whatever capitals.
 check_period <- function(by, titles) {
-  if (by %in% titles) {
-    refuse("option", "by = \"", by, "\" is a period of the calendar, and a column too: by = fixes$", by, " takes the column")
+  own <- titles[in_small(readable(as.character(titles))) == by]
+  if (length(own)) {
+    what <- if (own[1] == by) "a column" else paste0("the column \"", own[1], "\"")
+    refuse("option", "by = \"", by, "\" is a period of the calendar, and ", what, " too: by = fixes$", own[1], " takes the column")
   }
 }
 
-# What is said of a period that is also the title of a column of the file that fixes are of.
+# What is said of a period that is also the title of a column of the file that fixes are of, in whatever capitals.
 line_of_period <- function(by, fixes) {
   facts <- facts_of(fixes)
-  is_there <- is.null(facts$sources) && is_listed(by, grep("^not read: ", facts$notes, value = TRUE))
-  if (is_there) paste0("ranges are by the ", by, " of the calendar, and not by the column '", by, "' of the file, which is not kept: ",
-                       "read the file before to take that")
+  titles <- unlist(strsplit(sub("^not read: ", "", grep("^not read: ", facts$notes, value = TRUE)), ", "))
+  own <- titles[in_small(titles) == by]
+  if (is.null(facts$sources) && length(own)) {
+    paste0("ranges are by the ", by, " of the calendar, and not by the column '", own[1], "' of the file, which is not kept: read the file before ",
+           "to take that")
+  }
+}
+
+# What is said of fixes, of which the column of groups is not among those that are not read.
+without_title <- function(lines, by) {
+  if (!length(lines)) return(lines)
+  is_unread <- startsWith(lines, "not read: ")
+  rest <- sub(paste0(", ", one_line(readable(by)), ","), ",", paste0(",", sub("^not read:", "", lines[is_unread]), ","), fixed = TRUE)
+  lines[is_unread] <- paste0("not read:", substr(rest, 2, nchar(rest) - 1))
+  lines[lines != "not read:"]
 }
 
 # Why seconds have no calendar, and what helps.

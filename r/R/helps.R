@@ -180,7 +180,43 @@ help_for_bound <- function(found, frame) {
 
 # A column that there is not, where commas and bars stand in titles.
 help_for_column <- function(found, frame) {
-  if (any(grepl("[,|]", titles_in(frame)))) paste0(found[1], ": rename columns whose titles have a comma or |") else help_for_dots(found, frame)
+  if (any(grepl("[,|]", titles_in(frame)))) return(paste0(found[1], ": rename columns whose titles have a comma or |"))
+  titles <- titles_in(frame)
+  if (!length(titles)) titles <- gsub("^'|'$", "", unlist(regmatches(found[1], gregexpr("'[^']*'", found[1]))))[-1]
+  like <- like_title(found[3], titles)
+  if (length(like)) paste0(found[1], like) else help_for_dots(found, frame)
+}
+
+# What one sees of a title: no blanks but those between words, and nothing of signs that stand for nothing that is seen.
+as_seen <- function(titles) {
+  unseen <- "[\u00ad\u200b-\u200f\u202a-\u202e\u2060-\u2064\ufeff]"
+  blanks <- "[\\s\u00a0\u2000-\u200a\u202f\u205f\u3000]+"
+  trimws(gsub(blanks, " ", gsub(unseen, "", titles, perl = TRUE), perl = TRUE))
+}
+
+# How many accents a text has, in letters or behind them.
+accents_of <- function(text) {
+  signs <- strsplit(text, "")[[1]]
+  sum(without_accents(signs) != in_small(signs) & !grepl("^[A-Z]$", signs))
+}
+
+# What is said of a title that no column has, where that of one looks like it; NULL else.
+like_title <- function(wanted, titles) {
+  titles <- setdiff(readable(titles), c(wanted, NA, ""))
+  wanted <- readable(wanted)
+  are_like <- without_accents(as_seen(titles)) == without_accents(as_seen(wanted)) & vapply(titles, accents_of, 0L) == accents_of(wanted)
+  own <- titles[are_like][1]
+  if (is.na(own)) return(NULL)
+  seen <- as_seen(c(own, wanted))
+  what <- if (seen[1] == seen[2]) "blanks or signs that are not seen" else if (nchar(seen[1]) != nchar(seen[2])) "the form of letters" else "capitals"
+  paste0("; the column ", in_ascii(own), " differs from it in ", what, " alone: write it so")
+}
+
+# A text as R takes it, in quotes, with all signs but those of ASCII by their numbers.
+in_ascii <- function(text) {
+  codes <- utf8ToInt(text)
+  signs <- ifelse(codes < 128, intToUtf8(codes, multiple = TRUE), sprintf(ifelse(codes < 65536, "\\u%04x", "\\U%08x"), codes))
+  paste0("\"", gsub("([\"])", "\\\\\\1", paste(signs, collapse = "")), "\"")
 }
 
 # What the program says, and what is said in its place.

@@ -12,7 +12,8 @@ home_range <- function(x, levels = c(50, 95, 100), by = NULL, ..., progress = in
            "the data frame, with a value for each of its rows")
   }
   check_order(x, by, is_made_of(substitute(x), substitute(by)))
-  check_turned(x, by, substitute(by))
+  check_turned(x, by, substitute(by), parent.frame())
+  check_names_of_values(by, x)
   program <- homerange_program()  # refuses now, and not after all has been read, where there is none
   ranges <- in_folder(function(folder) {
     if (is_period(by)) check_period(by, names(x))

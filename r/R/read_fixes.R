@@ -30,6 +30,10 @@ read_table <- function(x, options, quiet, folder, has_rows = TRUE, used = NULL) 
   } else {
     with_left_before(read_frame(x, given, folder, has_rows), x, given$animal)
   }
+  if (is_text(used) && !is.null(facts_of(read$fixes)$sources)) {  # of a file no column is kept
+    read$said <- without_title(read$said, used)
+    attr(read$fixes, "homerange")$notes <- without_title(facts_of(read$fixes)$notes, used)
+  }
   session <- if (is_of_session(options)) paste0("days and hours are those of ", given$tz, ", the zone of the session")
   read$said <- c(session, groups, read$said)
   if (!quiet) for (line in read$said) tell_note(line, kind_of_said(line))
@@ -96,9 +100,16 @@ fixes_of_tracks <- function(into, tz, crs, said, further = function(record, fixe
   }
   fixes <- read_tracks(into, record)
   table <- table_of_fixes(fixes, record, tz, further(record, fixes))
-  said <- c(vapply(said, as_arguments, "", USE.NAMES = FALSE), if (!is.null(crs)) check_scales(table, crs))
+  said <- c(vapply(said, as_arguments, "", USE.NAMES = FALSE), if (!is.null(crs)) check_scales(table, crs),
+            line_of_encoding(unname(own_names(record)[record$tracks$animal])))
   facts <- facts_of_record(record, file.path(into, "split.txt"), tz, crs, said)
   list(fixes = new_fixes(table, facts), said = said, tracks = tracks_named(into, record$tracks$animal, names(facts$fixes)))
+}
+
+# What is asked where a name has control characters, as of a text of Windows that was read as latin-1.
+line_of_encoding <- function(names) {
+  own <- grep("\\xc2[\\x80-\\x9f]", names, perl = TRUE, useBytes = TRUE, value = TRUE)
+  if (length(own)) paste0("the name '", one_line(own[1]), "' has control characters: is the encoding of its table another, such as windows-1250?")
 }
 
 # The fixes of tracks as a table: animal, time in a zone or seconds since a start of one's own, eastings and northings in metres.

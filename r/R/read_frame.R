@@ -345,6 +345,11 @@ with_rows <- function(x, call) {
 
 # Refuses a table with the row that has the fault, by its label.
 refuse_row <- function(x, kind, record, text) {
+  places <- regexpr("[(]record [0-9]+[)]", text)
+  if (places > 0) {
+    own <- row_named(x, as.numeric(gsub("[^0-9]", "", regmatches(text, places))))
+    regmatches(text, places) <- paste0("(", sub("[)]$", "", sub(" (x[", ", x[", own, fixed = TRUE)), ")")
+  }
   text <- gsub("\\brecord ([0-9]+)\\b", "row \\1", text, perl = TRUE)
   if (is.null(record)) refuse(kind, text)
   refuse(kind, row_named(x, record), ": ", text, record = record)

@@ -41,7 +41,9 @@ each group is not known, and a page and evidence are of whole ranges. Groups tha
 and \code{"7"}, or none, as \code{"NA"}, are asked about as names of animals are. Beside fixes that were read a vector is taken where it is
 known of which fix each value is: where the call makes it of \code{x} alone, as \code{by = format(fixes$time, "\%H")}, where a column of
 \code{x} has its values, and where the fixes are the rows of their table in its order. Others are refused, since fixes are sorted and left
-out: give them to the table or to the fixes as a column, and name it.
+out: give them to the table or to the fixes as a column, and name it. Values that may be of other rows are refused beside each table, as of
+one that was sorted since: those of a column in another order, what the call makes of a column of another table that says otherwise than
+that of its title, and values with the names of rows in another order.
 
 \strong{Arguments} that are written as a part of something, such as \code{by = x$season}, and are \code{NULL}, as they are where the name is
 misspelt, are refused here and in the other functions of the package. Written as \code{NULL}, or as a variable that is \code{NULL}, they are

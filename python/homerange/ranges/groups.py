@@ -10,7 +10,7 @@ from contextlib import contextmanager
 from dataclasses import replace
 from datetime import timezone
 from pathlib import Path
-from typing import Any, Callable, Iterator, NamedTuple, Sequence
+from typing import Any, Callable, Iterable, Iterator, NamedTuple, NoReturn, Sequence
 
 import numpy
 import pandas
@@ -21,9 +21,11 @@ from ..read.call import split_table
 from ..read.cells import cells_of, is_time, odd_row, row_named
 from ..read.changes import are_alike, are_rows_of_table, has_labels, with_named_levels
 from ..read.fixes import Fixes, is_known, reading_of
+from ..read.letters import like_title
 from ..read.reading import OWN, SINCE_1970, ReadTable
 from ..read.refusals import HELP_DIGITS, LOST_DIGITS, UNREAD
 from ..read.text import quoted
+from .order import check_order, is_column_of
 from .outer import Track
 from .tracks import Tracks
 
@@ -33,6 +35,7 @@ OF_TABLE = ("by is a table, and a value for each row is wanted: take one column,
             "frame['b'].astype(str)")
 OTHERS: dict[type, str] = {dict: ": a column has it for each fix, as by fixes['animal'].map(by)", set: (ORDERED := ": a set has no order, and a list has one"),
                            frozenset: ORDERED}  # what is no value for each fix, and what helps
+FORMS = {"year": "%Y", "month": "%Y-%m"}  # of periods as texts
 REMEDY = "leave fixes without a group out before"
 LABELS = "groups.csv"  # the table of groups as names, of which the program asks whether some are one
 ALIKE = re.compile("animals ('.* alone: are they one[?])")
@@ -101,8 +104,7 @@ def labels_of(table: ReadTable, by: Any) -> list[str]:
     """The group of each fix. Values that were given beside a frame, or beside fixes that were read before, go by its rows."""
     fixes, labels = table.fixes, table.fixes.index
     if is_period(by):
-        if by in with_named_levels(fixes if table.frame is None else table.frame):
-            refuse(f"by={shown(by)} is a period of the calendar, and a column too: by=fixes[{by!r}] takes the column")
+        refuse_period(by, fixes if table.frame is None else table.frame)
         return periods(fixes, by)
     if isinstance(by, str):
         return given(column_named(table, by), labels)
@@ -112,6 +114,7 @@ def labels_of(table: ReadTable, by: Any) -> list[str]:
         return given(values_of_function(values, fixes), labels)
     frame = fixes if table.frame is None else table.frame
     values = values_of_fixes(by, frame) if isinstance(frame, Fixes) and is_known(frame) else values_for(by, frame)
+    check_order(by, values, frame)
     return given(values if table.rows is None else values.iloc[table.rows], labels)
 
 
@@ -127,8 +130,21 @@ def column_named(table: ReadTable, by: str) -> pandas.Series:
         refuse(f"by: the column {by!r} of a file is not kept: read the file by pandas before, as by pandas.read_csv(..), and take that "
                "in its place", "columns")
     if by not in rows:
-        refuse(f"by: there is no column {by!r}, and it is none of {', '.join(map(repr, PERIODS))}", "columns")
+        refuse_title(by, [*map(str, rows.columns)])
     return rows[by]
+
+
+def refuse_period(by: str, frame: pandas.DataFrame) -> None:
+    """Refuses a period that is the title of a column too, in whatever capitals."""
+    own = next((title for title in map(str, with_named_levels(frame).columns) if title.lower() == by), None)
+    if own is not None:
+        refuse(f"by={shown(by)} is a period of the calendar, and {'a column' if own == by else f'the column {own!r}'} too: by=fixes[{own!r}] "
+               "takes the column")
+
+
+def refuse_title(by: str, titles: Sequence[str]) -> NoReturn:
+    """Refuses the title of no column, with that of these which looks like it."""
+    refuse(f"by: there is no column {by!r}, and it is none of {', '.join(map(repr, PERIODS))}{like_title(by, titles)}", "columns")
 
 
 def is_of_file(fixes: Fixes, by: str) -> bool:
@@ -139,20 +155,27 @@ def is_of_file(fixes: Fixes, by: str) -> bool:
 
 
 def said_of_period(fixes: Fixes, by: str) -> list[str]:
-    """What is said of a period that is also the title of a column of the file that fixes are of."""
-    said = f"ranges are by the {by} of the calendar, and not by the column '{by}' of the file, which is not kept: read the file before to take that"
-    return [said] if is_of_file(fixes, by) else []
+    """What is said of a period that is also the title of a column of the file that fixes are of, in whatever capitals."""
+    unread = next((line.removeprefix(UNREAD) for line in reading_of(fixes).notes if line.startswith(UNREAD)), "")
+    own = next((title for title in unread.split(", ") if title.lower() == by and is_of_file(fixes, title)), None)
+    return [] if own is None else [
+        f"ranges are by the {by} of the calendar, and not by the column '{own}' of the file, which is not kept: read the file before to take that"]
+
+
+def without_title(lines: Iterable[str], by: str) -> list[str]:
+    """What is said of fixes, of which the column of groups is not among those that are not read."""
+    found = []
+    for line in lines:
+        rest = f", {line.removeprefix(UNREAD)}, ".replace(f", {one_line(by)}, ", ", ", 1)[2:-2]
+        if not line.startswith(UNREAD) or rest:
+            found.append(f"{UNREAD}{rest}" if line.startswith(UNREAD) else line)
+    return found
 
 
 def may_be_by_place(values: pandas.Series, frame: pandas.DataFrame) -> bool:
     """Whether values that are counted from 0 on say something else by their labels than by their places, so that nobody knows which is meant."""
     are_counted = values.index.equals(pandas.RangeIndex(len(frame))) and not frame.index.equals(values.index)
     return are_counted and frame.index.isin(values.index).all() and not are_alike(values.reindex(frame.index), values).all()
-
-
-def is_column_of(frame: pandas.DataFrame, values: pandas.Series) -> bool:
-    """Whether a column of a frame has these values."""
-    return any(are_alike(values, frame.iloc[:, at]).all() for at in range(len(frame.columns)))
 
 
 def values_of_function(values: Any, fixes: pandas.DataFrame) -> pandas.Series:
@@ -169,6 +192,8 @@ def values_of_fixes(values: Any, fixes: Fixes) -> pandas.Series:
     reading, is_series = reading_of(fixes), isinstance(values, pandas.Series)
     if is_series and values.index.is_(fixes.index):
         return values
+    if is_series and not fixes.index.isin(values.index).any():
+        refuse_labels_of_column(values, fixes)
     if is_series and values.index.is_unique and has_labels(fixes, reading) and fixes.index.isin(values.index).all():
         by_label = values.reindex(fixes.index)
         if not may_be_by_place(values, fixes) or is_column_of(fixes, by_label):
@@ -202,7 +227,7 @@ def values_for(values: Any, frame: pandas.DataFrame) -> pandas.Series:
 def refuse_lists(values: Any, frame: pandas.DataFrame) -> None:
     """Refuses a list of a title, and one of columns."""
     several = [*values] if isinstance(values, (list, tuple)) else []
-    if len(several) == 1 and isinstance(several[0], str) and several[0] in frame.columns:
+    if len(several) == 1 and isinstance(several[0], str) and several[0] in {*frame.columns, *PERIODS}:
         refuse(f"by is a list of 1 text: write by={several[0]!r}")
     if several and all(pandas.api.types.is_list_like(own) and hasattr(own, "__len__") and len(own) == len(frame) for own in several):
         helps = "take it, as by by[0]" if len(several) == 1 else "join them, as by by[0].astype(str) + ' ' + by[1].astype(str)"
@@ -210,11 +235,35 @@ def refuse_lists(values: Any, frame: pandas.DataFrame) -> None:
 
 
 def refuse_titles(values: Any, frame: pandas.DataFrame) -> None:
-    """Refuses titles of several columns."""
-    titles = [*values] if isinstance(values, (list, tuple)) else []
-    if len(titles) > 1 and all(isinstance(title, str) and title in frame.columns for title in titles):
-        texts = " + ' ' + ".join(f"fixes[{title!r}].astype(str)" for title in titles)
-        refuse(f"by names {len(titles)} columns: join them, as by {texts}")
+    """Refuses titles of several columns, periods among them."""
+    titles = [*values] if isinstance(values, (list, tuple, numpy.ndarray, pandas.Index)) else []
+    columns = [*map(str, with_named_levels(frame).columns)]
+    own = [title for title in titles if isinstance(title, str) and title not in columns]
+    if len(titles) < 2 or len(own) == len(titles) and not {*own} & {*PERIODS} or not all(isinstance(title, str) for title in titles):
+        return
+    unknown = next((title for title in own if title not in PERIODS), None)
+    if unknown is not None:
+        refuse_title(unknown, columns)
+    if not own:
+        refuse(f"by names {len(titles)} columns: join them, as by {joined_texts(titles)}")
+    refuse(f"by names {len(titles)} columns or periods: {help_for_periods(titles, own)}")
+
+
+def joined_texts(titles: Sequence[str]) -> str:
+    """How the texts of columns, or of years and months, are joined."""
+    texts = (f"fixes['time'].dt.strftime({FORMS[title]!r})" if title in FORMS else f"fixes[{title!r}].astype(str)" for title in titles)
+    return " + ' ' + ".join(texts)
+
+
+def help_for_periods(titles: Sequence[str], own: Sequence[str]) -> str:
+    """What helps where several titles are wanted, some of which are periods: months and seasons are those of a year."""
+    if len(own) == len(titles):
+        finest = "month" if "month" in own else "season"
+        return f"write by={finest!r}, which has {' and '.join(title for title in dict.fromkeys(own) if title != finest)} too"
+    if "season" not in own:
+        return f"join them, as by lambda fixes: {joined_texts(titles)}"
+    other = next(title for title in titles if title not in own)
+    return f"write by='season' for fixes of one {other} alone, as by fixes[fixes[{other!r}] == ..]"
 
 
 def aligned(series: pandas.Series, frame: pandas.DataFrame) -> pandas.Series:
@@ -226,7 +275,19 @@ def aligned(series: pandas.Series, frame: pandas.DataFrame) -> pandas.Series:
     if not frame.index.is_unique:
         refuse("by is a Series with another index than the frame, whose labels are there twice: make them unique before, as by "
                "frame.reset_index(drop=True), and by of it")
+    refuse_labels_of_column(series, frame)
     refuse("by is a Series with another index than the frame: take by.to_numpy() to go by position, or by.reindex(frame.index)")
+
+
+def refuse_labels_of_column(series: pandas.Series, frame: pandas.DataFrame) -> None:
+    """Refuses a series whose labels are the values of a column, as of a table of animals."""
+    if not len(series) or not pandas.api.types.infer_dtype(series.index) in ("string", "categorical"):
+        return
+    rows = with_named_levels(frame)
+    title = next((str(title) for at, title in enumerate(rows.columns) if rows.iloc[:, at].isin(series.index).all()), None)
+    if title is not None:
+        refuse(f"by is a Series whose labels are those of the column {title!r}, and not of the rows: a column has it for each fix, as by "
+               f"frame[{title!r}].map(by)")
 
 
 def given(values: pandas.Series, labels: pandas.Index) -> list[str]:

@@ -6,6 +6,7 @@ import math
 import os
 import tempfile
 from collections import Counter
+from dataclasses import replace
 from functools import cached_property
 from pathlib import Path
 from typing import TYPE_CHECKING, Any, Callable, Iterable, Mapping, NoReturn, Sequence
@@ -19,13 +20,13 @@ from ..errors import ReportError, check_file, is_several, path_of, refuse, shown
 from ..program import Program, checksum_of, find_program, program_of
 from ..read.fixes import Fixes, clock_of, is_of_fixes, reading_of
 from ..read.reading import ReadTable, has_calendar, read_again, read_table, tell, times_of
-from ..read.systems import crs_named
+from ..read.systems import crs_named, middle_outside
 from ..read.words import check_names
 from ..record import Record, difference_from_record, read_record
 from ..report import Corners, Percent, Report, Table, doubled_area, read as read_lines
 from ..units import UNITS, zone_of_time, zone_text
 from ..zones import text_of_crs
-from .groups import Group, check_by, group_tracks, is_period, labels_of, named_by, questions_of, said_of_period
+from .groups import Group, check_by, group_tracks, is_period, labels_of, named_by, questions_of, said_of_period, without_title
 from .growth import share
 from .outer import counts_within, polygon_kept
 from .overview import Facts, Row, facts_of, reasons_of, rows_of
@@ -433,9 +434,8 @@ def home_range(
         of all, of fixes as near the earlier.
     by: makes a range of each group of an animal's fixes: of a 'year', a 'month' ('2024-05') or a 'season' of a year, by the
         clock of the fixes; of a column of the frame, or of the fixes; of values, one for each fix, or for each row of a frame (a
-        Series goes by its index; a list beside fixes that were read is refused where it may be of the rows of their table); or of
-        what a function of the fixes answers. Seasons are those of meteorology and are named by
-        their months, '2024 Jun-Aug', and '2023-2024 Dec-Feb' for a December with the months behind it. Moments name groups as
+        Series goes by its index; values that may be of other rows, as of a frame that was sorted since, are refused); or of what
+        a function of the fixes answers. Seasons are those of meteorology and are named by their months, '2024 Jun-Aug', and '2023-2024 Dec-Feb' for a December with the months behind it. Moments name groups as
         their own clock shows them, and by days where all are midnights.
     program: the program; if left out, that in the environment as HOMERANGE, the package's own, that of the clone that the
         package is in, or homerange on PATH (README.md, Which program runs).
@@ -463,8 +463,11 @@ def home_range(
             labels = labels_of(table, by)
             questions = said_of_period(table.fixes, by) if is_period(by) else questions_of(labels, Path(folder), program)
             tracks, groups = group_tracks(tracks, labels, questions)
-        own, files = reading_of(table.fixes), Path(folder) / "tracks"
-        tell([*table.said, *tracks.notes[len(own.notes):]])
+        own, files, said = reading_of(table.fixes), Path(folder) / "tracks", [*table.said]
+        new = tracks.notes[len(own.notes):]
+        if isinstance(by, str) and not is_period(by):
+            said, tracks = without_title(said, by), replace(tracks, notes=without_title(tracks.notes, by))
+        tell([*said, *new])
         made = files if files.is_dir() and by is None else None  # the files that the program made of these tracks
         report = Runs(found.path, tracks.by_name, ",".join(map(str, wanted)), own.unit, made, tracks.names).report(shown, jobs)
     ranges = HomeRanges(report, tracks, crs=own.system, tz=clock_of(table.fixes), program=found)
@@ -495,7 +498,8 @@ def read_report(
     path: the report. One that is cut off, or whose lines are not those of a report, is refused (ReportError).
     files: the files that it was made from, for polygons below 100 per cent and for pictures with fixes. Files with
         other times of fixes, or another polygon of all, than the report are refused (ReportError).
-    crs: the reference system of the coordinates in metres, such as 'EPSG:32633'; if left out, that of the record.
+    crs: the reference system of the coordinates in metres, such as 'EPSG:32633'; if left out, that of the record. Ranges far from
+        where it is used are refused, as those of tracks that were shifted are without their shift.
     shift: how many metres were added to eastings and northings, as the line shift of split.txt has it; they are taken off
         in the answers.
     tz: the time zone of the times in the answers, where the seconds of the files are those since 1970 in UTC.
@@ -533,7 +537,26 @@ def ranges_of(report: Report, path: Path, files: Sequence[Path], crs: Any, tz: s
     ranges = HomeRanges(report, tracks_of_files(report, files), crs=crs, tz=tz, named=program)
     ranges.shift, ranges.record, ranges.checksum = shift, record, checksum_of(path)
     ranges.files, ranges.split = [*files], split
+    if crs is not None:
+        check_area(ranges, crs)
     return ranges
+
+
+def check_area(ranges: HomeRanges, crs: Any) -> None:
+    """Refuses ranges that lie far from where their reference system is made for, as those of tracks that were shifted do."""
+    west, south, east, north = ranges.box
+    middle, system = ((west + east) / 2, (south + north) / 2), crs_named(crs)
+    where = middle_outside(system, middle)
+    if where is None:
+        return
+    turned = middle[0] + 2 * ranges.shift[0], middle[1] + 2 * ranges.shift[1]
+    if any(ranges.shift) and ranges.record is None and middle_outside(system, turned) is None:
+        refuse(f"shift={ranges.shift} puts the ranges {where}: a shift is what was added, so write shift={tuple(-side for side in ranges.shift)}")
+    beside = next((split for split in (path.with_name("split.txt") for path in ranges.files) if split.is_file()), None)
+    named = "'tracks/split.txt'" if beside is None else repr(str(beside))
+    helps = "" if ranges.record is not None else (": were they shifted? name what was added, as the line shift of split.txt has it, as by "
+                                                  f"shift=(1000000, 0), or that file, as by record={named}")
+    refuse(f"crs: the ranges lie {where}{helps or ': name another one'}", "crs")
 
 
 def check_record(record: Record, report: Report, files: Iterable[Path]) -> None:

@@ -30,8 +30,8 @@ class Reading:
     known), the zone of their times, how many metres the program added to coordinates, what was said, how many fixes were left
     out by animal and reason, how many fixes each animal had, the names that files have of animals, the record that the program
     wrote, whether the export that it names is the text of a frame, the checksum of the rows that were read, the titles of their
-    table and of those of its columns that were read, whether the fixes are the rows of a frame in its order, and whether they have
-    its labels, and what tells each fix."""
+    table and of those of its columns that were read, whether the fixes are the rows of a frame in its order, whether they have its
+    labels, how many rows it has if these labels are 0, 1, 2, .., and what tells each fix."""
 
     unit: str
     zone: str | None
@@ -52,6 +52,7 @@ class Reading:
     unknown: frozenset[str] = frozenset()  # animals of which it is not known how many fixes were left out
     is_in_order: bool = False
     is_labelled: bool = False
+    rows_counted: int | None = None
     seen: Seen | None = field(default=None, compare=False, repr=False)
 
     @property
@@ -76,7 +77,7 @@ def bound(readings: Iterable[Reading]) -> Reading:
     counts: Counter[str] = sum((Counter(part.counts) for part in parts), Counter())
     return replace(
         parts[0], notes=tuple(dict.fromkeys(note for part in parts for note in part.notes)), left=dict(left), counts=dict(counts),
-        record=None, rows=None, parts=tuple(parts), titles=frozenset(title for part in parts for title in part.titles),
+        record=None, rows=None, rows_counted=None, parts=tuple(parts), titles=frozenset(title for part in parts for title in part.titles),
         unknown=frozenset(name for part in parts for name in part.unknown))
 
 

@@ -8,6 +8,7 @@ from typing import Any, Callable, Mapping, Sequence
 
 from ..errors import one_line
 from .cells import cells_of
+from .letters import like_title
 from .text import Column, has_times, is_number, plain, titles_named
 
 Refusal = re.Match[str]
@@ -170,6 +171,12 @@ def of_bound(found: Refusal, options: Mapping[str, Any], _: Sequence[Column]) ->
     return found[0] if name is None else f"{name}: {found[0]}"
 
 
+def of_title(found: Refusal, _: Mapping[str, Any], columns: Sequence[Column]) -> str:
+    """A title that no column has; that of a file is among those that the program lists."""
+    titles = [column.title for column in columns] or re.findall("'([^']*)'", found[3])
+    return f"{found[0]}{like_title(found[2], titles)}"
+
+
 # What the program says, and what is said in its place.
 HELPS: tuple[tuple[str, Callable[[Refusal, Mapping[str, Any], Sequence[Column]], str]], ...] = (
     ("((.*) is '(.*)' and not a time (?:such as 2024-05-01 00:30:04|of the form .*?))(?:: (?:if it is one|name its form), .*)?", of_time),
@@ -180,7 +187,7 @@ HELPS: tuple[tuple[str, Callable[[Refusal, Mapping[str, Any], Sequence[Column]],
     ("(.* is '00[0-9]{2}-[^']*', which is no time since 1970, and not within 0 to [0-9]+ seconds): if its year .*", of_year),
     ("no fix is left; left out by reason: type [0-9]+", of_types),
     ("((.*) is '([0-9.]+)', (which (?:looks like|is no second since 1970).*)): write a time such as .*", of_count),
-    ("there is no ([^:,]*)", of_none), ("time-format is '(.*)', which is no form of a day.*", of_form),
+    ("(.*there is no column '(.*)'); the table has (.*)", of_title), ("there is no ([^:,]*)", of_none), ("time-format is '(.*)', which is no form of a day.*", of_form),
     ("tz='(?:UTC|GMT)?([+-])0?([0-9]{1,2})(?::?00)?' is no time zone such as .*", of_offset),
     ("'(.*)' is no time in .*", of_bound), ("( *) is no zone as 33N", lambda found, *_: f"zone={found[1]!r} is no zone as 33N"),
     ("EPSG:.* is no zone as 33N", lambda found, *_: f"{found[0]}: a reference system is named by crs"),

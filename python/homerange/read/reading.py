@@ -56,6 +56,7 @@ OWN = ("animal", "time", "second", *PLACES)  # titles that fixes have
 READERS = {(".geojson", ".json", ".shp"): "geopandas.read_file", (".parquet",): "pandas.read_parquet", (".feather",): "pandas.read_feather",
            (".pickle", ".pkl"): "pandas.read_pickle"}  # what reads files of other forms, by how their names end
 OFFSET = re.compile("(Z|[+-][0-9]{2}:?[0-9]{2})$")  # of a text of a time
+CONTROLS = re.compile("[\x80-\x9f]")  # letters in the encodings of Windows, and none in latin-1
 RECORDS = re.compile(r"(?<=: )records ([0-9]+(?:, [0-9]+)*)(?=,? ?[.:]|$)")  # in what is said
 
 
@@ -191,8 +192,8 @@ def read_again(fixes: Fixes, options: Mapping[str, Any], folder: Path, program: 
     since = left_since(fixes, before)
     own = replace(own, notes=(*notes_again(before, own, fixes, wishes), *new), left=since.counts + Counter(own.left), is_again=True,
                   titles=before.titles, sources=before.sources | (own.sources - {*OWN}), unknown=since.unknown,
-                  is_labelled=has_plain_labels(fixes) and has_labels(fixes, before), is_in_order=found.rows is not None and
-                  is_in_order(found.rows, fixes) and are_rows_of_table(fixes, before))
+                  rows_counted=before.rows_counted, is_labelled=has_plain_labels(fixes) and has_labels(fixes, before),
+                  is_in_order=found.rows is not None and is_in_order(found.rows, fixes) and are_rows_of_table(fixes, before))
     table = found.fixes if found.rows is None else with_columns(found.fixes, fixes, found.rows)
     zone = getattr(fixes["time"].dtype, "tz", None) if "time" in fixes and "tz" not in wishes else None
     if zone is not None and "time" in table:
@@ -307,7 +308,7 @@ def read_frame(frame: pandas.DataFrame, options: Mapping[str, Any], folder: Path
     lost = lost_said(frame, reading_of(found.fixes).sources)
     fixes = with_columns(found.fixes, frame, found.rows)
     fixes.reading = replace(reading_of(fixes), notes=(*reading_of(fixes).notes, *lost), is_in_order=is_in_order(found.rows, frame),
-                            is_labelled=has_plain_labels(frame))
+                            is_labelled=has_plain_labels(frame), rows_counted=rows_counted(frame.index))
     return found._replace(fixes=fixes, frame=frame, said=reading_of(fixes).notes)
 
 
@@ -383,11 +384,17 @@ def fixes_of(whole: Whole, record: Record, folder: Path, tz: str | None, crs: An
     fixes = Fixes({"animal": whole.per_fix(names), **when, "easting": east, "northing": north})
     middles = {name: (float(east[part].mean()), float(north[part].mean())) for name, part in zip(names, parts_of(whole.counts))}
     said = [as_arguments(in_words(line)) for line in record.said]
-    shown = [*notes, *said, *scales_said(crs, record.zone, middles)]
+    shown = [*notes, *said, *scales_said(crs, record.zone, middles), *encoding_asked(whole.names)]
     fixes.reading = Reading(
         record.unit, record.zone, crs, clock, record.shift, tuple(shown), left_out(record, own), dict(zip(names, whole.counts)),
         {name: file for file, name in own.items()}, (folder / "tracks" / "split.txt").read_bytes())
     return fixes
+
+
+def encoding_asked(names: Iterable[str]) -> list[str]:
+    """What is asked where a name has control characters, as of a text of Windows that was read as latin-1."""
+    own = next(filter(CONTROLS.search, names), None)
+    return [] if own is None else [f"the name '{one_line(own)}' has control characters: is the encoding of its table another, such as windows-1250?"]
 
 
 def parts_of(counts: Iterable[int]) -> Iterable[slice]:
@@ -414,6 +421,11 @@ def times_of(seconds: pandas.Series, tz: str) -> pandas.Series:
 def is_in_order(rows: NDArray[numpy.int64], frame: pandas.DataFrame) -> bool:
     """Whether the rows of fixes are all of a frame, in its order."""
     return numpy.array_equal(rows, numpy.arange(len(frame)))
+
+
+def rows_counted(labels: pandas.Index) -> int | None:
+    """How many rows there are whose labels are 0, 1, 2, .., which tell no row from that of another table; None of other labels."""
+    return len(labels) if labels.equals(pandas.RangeIndex(len(labels))) else None
 
 
 def has_plain_labels(frame: pandas.DataFrame) -> bool:

@@ -47,8 +47,25 @@ def refuse_text(text: Text, fault: FrameError) -> NoReturn:
     if odd:
         refuse_class(text, [own for own in odd if own.title in said] or odd, fault.kind)
     line = with_rename(in_own_words(as_arguments(with_remedy(of_frame(said), text), fault.kind), text), text)
+    line = of_levels(of_rows(line, text.labels), text)
     where = "" if fault.record is None else f"{row_named(text.labels, fault.record - 1)}: "
     raise FrameError(f"{where}{line}", fault.kind, fault.record)
+
+
+def of_rows(said: str, labels: pandas.Index) -> str:
+    """What the program says of a record in brackets, as it is said of the row."""
+    return re.sub("[(]record ([0-9]+)[)]", lambda found: "({})".format(
+        row_named(labels, int(found[1]) - 1).replace(" (frame.iloc", ", frame.iloc").removesuffix(")")), said)
+
+
+def of_levels(said: str, text: Text) -> str:
+    """What is said with the column of a frame that is a level of its index."""
+    titles = [column.title for column in text.columns if column.own is not None] + [*text.labels.names]
+    found = re.search(r"frame\['([^']*)'\][.]notna", said)
+    if found is None or found[1] not in titles:
+        return said
+    level = "frame.index" if text.labels.nlevels == 1 else f"frame.index.get_level_values({found[1]!r})"
+    return said.replace(f"frame[{found[1]!r}].notna", f"{level}.notna")
 
 
 def with_remedy(said: str, text: Text) -> str:
@@ -203,8 +220,9 @@ def refuse_unnamed(text: Text) -> None:
         own = labels.get_level_values(at)
         if name is None and not own.is_unique and pandas.api.types.infer_dtype(own) in ("string", "categorical"):
             level = f"level {at} of the index" if labels.nlevels > 1 else "the index"
+            names = ["animal" if place == at else known for place, known in enumerate(labels.names)]
             refuse(f"no column has a usual title for the animal, and {level} has texts that repeat, and no name: if they are the "
-                   "animals, name it, as by frame.index.names", "columns")
+                   f"animals, name it, as by frame.index.names = {names!r}", "columns")
 
 
 def columns_read(text: Text, record: Record) -> Iterator[Column]:

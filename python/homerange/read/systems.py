@@ -25,6 +25,7 @@ HELP_SCALE = "take a zone or a reference system of the place"
 PROJECTED = "longitude and latitude are projected into zone "  # how the program begins what it says of degrees that it projected
 HELP_LOCAL = "make {} of its coordinates, which need no CRS"
 METRE = {"metre", "meter", "metres", "meters", "m"}  # in small letters
+NEAR = 3  # degrees beside the area of a reference system in which it is used too: a shift is of 9 or more
 RADIUS = (6_350_000, 6_400_000)  # metres between which that of a body is one of the Earth
 TITLES = {"easting": "point easting", "northing": "point northing"}
 TITLES_OF_DEGREES = {"lon": "point longitude", "lat": "point latitude"}
@@ -209,6 +210,28 @@ def side_of(values: pandas.Series, is_point: NDArray[numpy.bool_]) -> pandas.Ser
     found = numpy.full(len(is_point), numpy.nan)
     found[is_point] = values
     return pandas.Series(found)
+
+
+def middle_outside(crs: Any, middle: tuple[float, float]) -> str | None:
+    """Where the middle of some coordinates lies, and for where their reference system is made, if that is far from each other; None
+    where it is not, or not known."""
+    area = getattr(crs, "area_of_use", None)
+    if area is None:
+        return None
+    from pyproj import Transformer
+
+    east, north = Transformer.from_crs(crs, DEGREES, always_xy=True).transform(*middle)
+    wide = (area.east - area.west) % 360 or 360
+    is_within = isfinite(east) and isfinite(north) and area.south - NEAR <= north <= area.north + NEAR and (
+        (east - area.west + NEAR) % 360 <= wide + 2 * NEAR)
+    place = f"near {placed(east, 'EW')} {placed(north, 'NS')}" if isfinite(east) and isfinite(north) else "where that has no place"
+    return None if is_within else (f"{place}, and {crs.name} is of {placed(area.west, 'EW')} to {placed(area.east, 'EW')}, "
+                                   f"{placed(area.south, 'NS')} to {placed(area.north, 'NS')}")
+
+
+def placed(degrees: float, ways: str) -> str:
+    """Degrees as they are written, with where they go."""
+    return f"{abs(degrees):.1f} {ways[degrees < 0]}"
 
 
 def scales_said(crs: Any, zone: str | None, middles: Mapping[str, tuple[float, float]]) -> list[str]:

@@ -247,11 +247,13 @@ def with_time_named(text: Text, refusal: str) -> Text | None:
 
 
 def in_own_words(said: str, text: Text) -> str:
-    """What is said of a text with the title that a column has itself, where it got another."""
-    if text.renamed is None:
-        return said
-    title, own = text.renamed
-    return re.sub(rf"(?<![\w-]){re.escape(title)}(?![\w-])", one_line(own).replace("\\", r"\\"), said)
+    """What is said of a text with the title that a column, or a level of the index, has itself, where it got another."""
+    titles = [column.title for column in text.columns]
+    levels = [(column.title, column.own) for column in text.columns
+              if column.own is not None and column.own in text.labels.names and titles.count(column.title) == 1]
+    for title, own in [text.renamed] if text.renamed is not None else levels:
+        said = re.sub(rf"(?<![\w-]){re.escape(title)}(?![\w-])", one_line(str(own)).replace("\\", r"\\"), said)
+    return said
 
 
 def with_rename(said: str, text: Text) -> str:

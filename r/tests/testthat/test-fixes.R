@@ -895,3 +895,23 @@ test_that("of many fixes those that were taken away are counted", {
   left <- expect_silent(left_since(fixes[seq(1, 60000, 3), ])$left)
   expect_identical(left$fixes, 40000)
 })
+
+test_that("a record in brackets is a row by its label", {
+  skip_without_program()
+  table <- data.frame(animal = "fox", time = sprintf("2024-07-01 %02d:00:00", 0:3), dst = c(1, 1, 0, 1), easting = c(0, 900, 0, 9), northing = c(0, 0, 900, 9))
+  labelled <- `row.names<-`(table, paste0("r", 1:4))
+  expect_error(quietly(read_fixes(table, tz = "Europe/Ljubljana")), "^column 3 'dst' says otherwise than the clock of Europe/Ljubljana .* [(]row 3[)]: ",
+               class = "homerange_columns_error")
+  expect_error(quietly(read_fixes(labelled, tz = "Europe/Ljubljana")), "^column 3 'dst' says otherwise .* [(]row r3, x\\[3, \\][)]: ", class = "homerange_columns_error")
+})
+
+test_that("names with control characters are asked about", {
+  skip_without_program()
+  path <- file.path(local_folder(), "own.csv")
+  writeBin(charToRaw("animal,time,easting,northing\n\x8aa\x9aa,2024-01-01,9,0\n\x8aa\x9aa,2024-01-02,18,0\n"), path)
+  said <- "the name '\\x8aa\\x9aa' has control characters: is the encoding of its table another, such as windows-1250?"
+  expect_message(read_fixes(path, encoding = "latin-1"), said, fixed = TRUE, class = "homerange_asked_note")
+  expect_message(read_fixes(utils::read.csv(path, fileEncoding = "latin1")), said, fixed = TRUE, class = "homerange_asked_note")
+  expect_false(any(grepl("control characters", capture_messages(fixes <- read_fixes(path, encoding = "windows-1250")))))
+  expect_identical(unique(fixes$animal), "\u0160a\u0161a")
+})

@@ -310,12 +310,14 @@ test_that("values of a table that was sorted since are refused", {
   table <- data.frame(animal = "a", time = sprintf("2024-03-01 %02d:00:00", c(3, 1, 4, 2)), easting = 562000 + c(0, 200, 200, 0),
                       northing = 5134000 + c(0, 0, 200, 200), g = c("u", "v", "v", "u"))
   sorted <- table[order(table$time), ]
-  said <- "by: the values are those of the column 'g' of the table in another order than that of its rows: name it, as by by = \"g\""
+  said <- paste0("by: the values are those of the column 'g' of the table in another order than that of its rows: name it, as by by = \"g\", or ",
+                 "make others a column of the table, as by x$group <- .., and by = \"group\"")
   plain <- `row.names<-`(sorted, NULL)  # as dplyr leaves them
   values <- table$g
   for (call in list(quote(home_range(sorted, 100, by = table$g)), quote(home_range(sorted, 100, by = values)),
                     quote(home_range(table[order(table$time), ], 100, by = table[["g"]])), quote(home_range(plain, 100, by = table$g)),
-                    quote(home_range(sorted, 100, by = factor(table$g))))) {
+                    quote(home_range(sorted, 100, by = factor(table$g))), quote(home_range(plain, 100, by = values)),
+                    quote(home_range(plain, 100, by = with(table, g))), quote(home_range(read_fixes(plain), 100, by = values)))) {
     expect_error(quietly(eval(call)), said, fixed = TRUE, class = "homerange_option_error")
   }
   wanted <- summary(quietly(home_range(table, 100, by = "g")))
@@ -323,4 +325,115 @@ test_that("values of a table that was sorted since are refused", {
                     quote(home_range(plain, 100, by = plain$g)), quote(home_range(sorted, 100, by = toupper(sorted$g))))) {
     expect_identical(summary(quietly(eval(call)))$hectares, wanted$hectares)
   }
+})
+
+# Three fixes of a fox in its den and three of a boar that is out, by animals: in the order of times they take turns.
+dens <- function() {
+  times <- as.POSIXct(paste0("2024-01-0", c(1, 3, 5, 2, 4, 6)), tz = "UTC")
+  data.frame(animal = rep(c("fox", "boar"), each = 3), k = rep(c("den", "out"), each = 3), time = times,
+             easting = c(0, 900, 0, 5000, 5900, 5000), northing = c(0, 0, 900, 0, 0, 900))
+}
+
+# How many fixes each animal's groups have.
+counts_of <- function(ranges) {
+  table <- summary(ranges)
+  table <- table[table$level == 100, ]
+  `names<-`(table$fixes, paste(table$animal, table$group))
+}
+
+test_that("values made of what another table has under the title of a column are refused", {
+  skip_without_program()
+  table <- dens()
+  plain <- `row.names<-`(table[order(table$time), ], NULL)
+  other <- transform(table, k = rep(c("x", "y"), 3))
+  for (call in list(quote(toupper(table$k)), quote(paste(table[["k"]], "!")))) {
+    expect_error(quietly(eval(bquote(home_range(plain, by = .(call))))), "^by is made of table.*k.*, and the column of that title says otherwise: by = \"k\" takes the column; if other values are meant, make them a column of the table, as by x[$]group <- [.][.], and by = \"group\"$",
+                 class = "homerange_option_error")
+  }
+  expect_error(quietly(home_range(plain, by = other$k)), "by is made of other$k, and the column of that title says otherwise", fixed = TRUE,
+               class = "homerange_option_error")
+  wanted <- c("fox DEN" = 3, "boar OUT" = 3)
+  expect_equal(counts_of(quietly(home_range(plain, by = toupper(plain$k)))), wanted)
+  expect_equal(counts_of(quietly(home_range(table, by = toupper(table$k)))), wanted)
+  expect_equal(counts_of(quietly(home_range(cbind(table, n = 1:6), by = c("1", "2", "3", "4", "5", "6")))), `names<-`(rep(1, 6), paste(table$animal, 1:6)))
+  by <- `names<-`(toupper(plain$k), c(1, 4, 2, 5, 3, 6))
+  expect_error(quietly(home_range(table, by = by)), "by has the names of rows in another order, so that nobody knows of which each value is: unname(by)",
+               fixed = TRUE, class = "homerange_option_error")
+  expect_equal(counts_of(quietly(home_range(table, by = by[row.names(table)]))), wanted)
+  for (package in c("data.table", "dplyr")) skip_if_not_installed(package)
+  turned <- data.table::as.data.table(table)
+  values <- table$k  # that of the other table is sorted where it stands
+  data.table::setorder(turned, time)
+  for (own in list(turned, dplyr::arrange(dplyr::as_tibble(table), time), dplyr::group_by(dplyr::arrange(table, time), animal))) {
+    expect_error(quietly(home_range(own, by = values)), "by: the values are those of the column 'k' of the table in another order", fixed = TRUE,
+                 class = "homerange_option_error")
+    expect_equal(counts_of(quietly(home_range(own, by = own$k))), c("fox den" = 3, "boar out" = 3))
+  }
+})
+
+test_that("values by the names of animals are told from values of rows", {
+  skip_without_program()
+  table <- dens()
+  by <- c(fox = "f", boar = "m")
+  said <- "by has names that are those of the column 'animal', and not a value for each row: a column has it for each fix, as by "
+  for (own in list(table, read_frame_quietly(table))) {
+    expect_error(quietly(home_range(own, by = by)), paste0(said, "by[as.character(x$animal)]"), fixed = TRUE, class = "homerange_option_error")
+    expect_error(quietly(home_range(own, by = as.list(by))), paste0(said, "unlist(by)[as.character(x$animal)]"), fixed = TRUE, class = "homerange_option_error")
+  }
+  expect_equal(counts_of(quietly(home_range(table, by = by[as.character(table$animal)]))), c("fox f" = 3, "boar m" = 3))
+})
+
+test_that("titles and periods of several are refused with what helps", {
+  skip_without_program()
+  table <- dens()
+  cases <- list(
+    list(c("year", "month"), "by names 2 columns or periods: write by = \"month\", which has year too"),
+    list(c("season", "year"), "by names 2 columns or periods: write by = \"season\", which has year too"),
+    list(c("k", "year"), "by names 2 columns or periods: join them, as by function(fixes) paste(fixes$k, format(fixes$time, \"%Y\"))"),
+    list(c("k", "season"), "by names 2 columns or periods: write by = \"season\" for fixes of one k alone, as by fixes[fixes$k == .., ]"),
+    list(c("animal", "k"), "by names 2 columns: join them, as by paste(fixes$animal, fixes$k)"),
+    list(c("k", "sex"), "by: there is no column \"sex\", and it is none of \"year\", \"month\", \"season\""),
+    list(list("year", "month"), "by is a list of 2 texts: write a vector, as by c(\"year\", \"month\")"),
+    list("K", "by: there is no column \"K\", and it is none of \"year\", \"month\", \"season\"; the column \"k\" differs from it in capitals alone: write it so")
+  )
+  for (case in cases) expect_error(quietly(home_range(table, by = case[[1]])), case[[2]], fixed = TRUE, class = "homerange_error")
+  joined <- quietly(home_range(table, by = function(fixes) paste(fixes$k, format(fixes$time, "%Y"))))
+  expect_equal(counts_of(joined), c("fox den 2024" = 3, "boar out 2024" = 3))
+})
+
+test_that("titles that look alike are told apart", {
+  skip_without_program()
+  cases <- list(c("La\u0308nge", "L\u00e4nge", "\"La\\u0308nge\"", "the form of letters"), c("k\u00a0x", "k x", "\"k\\u00a0x\"", "blanks or signs that are not seen"),
+                c("k\u200b", "k", "\"k\\u200b\"", "blanks or signs that are not seen"))
+  for (case in cases) {
+    table <- `names<-`(dens(), sub("^k$", case[1], names(dens())))
+    said <- paste0("; the column ", case[3], " differs from it in ", case[4], " alone: write it so")
+    expect_error(quietly(home_range(table, by = case[2])), said, fixed = TRUE, class = "homerange_columns_error")
+    expect_error(quietly(read_fixes(table, easting = case[2], northing = "northing")), said, fixed = TRUE, class = "homerange_columns_error")
+  }
+  said <- tryCatch(quietly(read_fixes(`names<-`(dens(), sub("^k$", "Lange", names(dens()))), easting = "L\u00e4nge", northing = "northing")),
+                   error = conditionMessage)
+  expect_false(grepl("differs", said))
+})
+
+test_that("a column of groups is not said to be not read", {
+  skip_without_program()
+  unread <- function(lines) grep("not read", lines, value = TRUE)
+  expect_identical(unread(capture_messages(ranges <- home_range(dens(), by = "k"))), character())
+  expect_identical(unread(ranges$notes), character())
+  said <- unread(capture_messages(ranges <- home_range(cbind(dens(), note = 1), by = "k")))
+  expect_identical(c(said, unread(ranges$notes)), c("homerange: not read: note\n", "not read: note"))
+})
+
+test_that("a period in other capitals is a column too", {
+  skip_without_program()
+  table <- `names<-`(dens(), sub("^k$", "Season", names(dens())))
+  for (own in list(table, read_frame_quietly(table))) {
+    expect_error(quietly(home_range(own, by = "season")), "by = \"season\" is a period of the calendar, and the column \"Season\" too: by = fixes$Season takes",
+                 fixed = TRUE, class = "homerange_option_error")
+    expect_equal(counts_of(quietly(home_range(own, by = "Season"))), c("fox den" = 3, "boar out" = 3))
+  }
+  path <- file.path(local_folder(), "own.csv")
+  utils::write.csv(transform(table, time = format(time)), path, row.names = FALSE)
+  expect_message(home_range(path, by = "season"), "ranges are by the season of the calendar, and not by the column 'Season' of the file", fixed = TRUE)
 })
