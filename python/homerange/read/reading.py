@@ -48,6 +48,7 @@ READ, NOT_READ = "columns: ", "not read: "
 NO_TIME, OF_TIMES = "no column has a usual title for the time: ", ("since", "until", "max_speed", "every")
 TAKEN = (READ, "UTM coordinates are", "coordinates are those", "longitude and latitude are", "days and hours are",
          "ranges are by group", NOT_READ, "times are read as ", "points of ")
+SUBJECT = re.compile("column [0-9]+ '.*' is read as (eastings|northings|longitudes|latitudes|times)[ :]")  # of titles with unknown words
 
 
 # Options that want columns of fixes beside their own.
@@ -70,11 +71,16 @@ class ReadTable(NamedTuple):
     rows: NDArray[numpy.int64] | None = None
 
 
+def says_what_was_taken(line: str) -> bool:
+    """Whether a line says what was taken, and nothing that was left out or changed."""
+    return line.startswith(TAKEN) or SUBJECT.match(line) is not None
+
+
 def tell(lines: Iterable[str]) -> None:
     """Says in warnings what was taken, left out or changed, as of the line that called the package."""
     depth = 1 + calls_within(sys._getframe(1))
     for line in lines:
-        is_info = line.startswith(TAKEN) or NAMED.fullmatch(line)
+        is_info = says_what_was_taken(line) or NAMED.fullmatch(line)
         warnings.warn(line, HomeRangeInfo if is_info else HomeRangeNote, stacklevel=depth)
 
 
@@ -188,7 +194,7 @@ def read_again(fixes: Fixes, options: Mapping[str, Any], folder: Path, program: 
     refuse_changed(fixes, before, own.sources)
     further = fixes.loc[:, [title not in OWN for title in fixes.columns]]
     lost = [] if found.rows is None else lost_said(further, before.sources)
-    new = [note for note in (*own.notes, *lost) if (note not in before.notes or note.endswith(DONE)) and not note.startswith(TAKEN)]
+    new = [note for note in (*own.notes, *lost) if (note not in before.notes or note.endswith(DONE)) and not says_what_was_taken(note)]
     since = left_since(fixes, before)
     own = replace(own, notes=(*notes_again(before, own, fixes, wishes), *new), left=since.counts + Counter(own.left), is_again=True,
                   titles=before.titles, sources=before.sources | (own.sources - {*OWN}), unknown=since.unknown,
