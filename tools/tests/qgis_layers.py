@@ -304,7 +304,7 @@ def test_what_is_said_names_features_and_parameters():
     assert any(line.endswith("comes twice in Europe/Ljubljana: features 2, 3, 4, 5") for line in said), said
     line = refusal(layer_of(square("fox", "3"), fields="animal:string,lc:string"))
     assert line == "field 'lc' may have Argos classes: name it, as by 'Field of Argos classes' = 'lc', or rename or remove it", line
-    line = refusal(layer_of(square("fox", "2024-10-27", "am"), fields="animal:string,timestamp:string,half:string"))
+    line = refusal(layer_of(square("fox", "2024-10-27", "pm"), fields="animal:string,timestamp:string,half:string"))
     assert "join it to the time, as by Field calculator with %p in 'Form of the time', or remove it" in line, line
 
 

@@ -106,7 +106,7 @@ def plain(text):
     """A line of either language, without what each has by its own syntax."""
     text = re.sub(r" \((frame[.]iloc\[[0-9]+\]|x\[[0-9]+, \])\)", "", text.replace('"', "'").replace(" = ", "="))
     text = re.sub("(?<= as by )(frame|x|pandas|fixes|data|as|read|format)[.[($].*", "..", text)
-    return re.sub(": (make times of them|leave fixes without|project it|make it one|make points of|sf::st_transform).*", "", text)
+    return re.sub(": (make times of them|make text, numbers or times|do[.]call|leave fixes without|project it|make it one|make points of|sf::st_transform).*", "", text)
 
 
 def other_answers(folder):

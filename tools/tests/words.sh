@@ -18,6 +18,7 @@ END
 
 holds 'words: a page is written' "$tools/words.py" words
 holds 'words: it is right' "$tools/words.py" --check words
+# shellcheck disable=SC2016
 holds 'words: a list' grep -qxF '| Foxes, in two languages | `fox`, `liška` |' words/docs/WORDS.md
 holds 'words: a blank that does not break' grep -qxF "| Badgers | \`a$(printf '\302\240')brock\` |" words/docs/WORDS.md
 
