@@ -90,7 +90,7 @@ def test_an_argument_is_taken_or_refused_in_one_line_by_its_name(splitter, range
         except (HomeRangeError, HomeRangeNote) as fault:
             said = str(fault)
             assert said and "\n" not in said and len(said) < 6000, value
-            is_named = re.search(rf"^{argument}\b|\b{argument}( ?[=:]| is | has | takes )|no argument {argument}$", said)
+            is_named = re.search(rf"^{argument}\b|\b{argument}( ?[=:]| is | has | takes )|no (argument|option) {argument}$", said)
             assert not isinstance(value, WRONG) or is_named or NAMED.get(argument, "\n") in said, (value, said)
         pyplot.close("all")
 

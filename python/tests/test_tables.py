@@ -203,8 +203,9 @@ def test_an_index_beside_columns_is_one_column_more():
     assert fault.value.kind == "ambiguous"
     # A day alone in a column beside the times of the index: all fixes of a day would be of its midnight.
     moving = frame.drop(columns="timestamp").assign(date=START.date()).set_axis(frame["timestamp"].rename("t"))
-    with pytest.raises(FrameError, match="'date' and .* 'datetime'|'datetime' and .* 'date'"):
+    with pytest.raises(FrameError, match="'date' and .* 't' both fit the time: t has moments: name it alone, as by time='t'$"):
         home_range(moving)
+    assert home_range(moving, time="t").curve()["time"].tolist() == frame["timestamp"].tolist()
 
 
 def test_frames_of_other_packages():

@@ -537,26 +537,26 @@ def ranges_of(report: Report, path: Path, files: Sequence[Path], crs: Any, tz: s
     ranges = HomeRanges(report, tracks_of_files(report, files), crs=crs, tz=tz, named=program)
     ranges.shift, ranges.record, ranges.checksum = shift, record, checksum_of(path)
     ranges.files, ranges.split = [*files], split
-    if crs is not None:
+    if crs is not None and record is None:
         check_area(ranges, crs)
     return ranges
 
 
 def check_area(ranges: HomeRanges, crs: Any) -> None:
-    """Refuses ranges that lie far from where their reference system is made for, as those of tracks that were shifted do."""
+    """Refuses ranges without a record that lie far from where the named reference system is made for, as those of tracks that were
+    shifted do."""
     west, south, east, north = ranges.box
     middle, system = ((west + east) / 2, (south + north) / 2), crs_named(crs)
     where = middle_outside(system, middle)
     if where is None:
         return
     turned = middle[0] + 2 * ranges.shift[0], middle[1] + 2 * ranges.shift[1]
-    if any(ranges.shift) and ranges.record is None and middle_outside(system, turned) is None:
+    if any(ranges.shift) and middle_outside(system, turned) is None:
         refuse(f"shift={ranges.shift} puts the ranges {where}: a shift is what was added, so write shift={tuple(-side for side in ranges.shift)}")
     beside = next((split for split in (path.with_name("split.txt") for path in ranges.files) if split.is_file()), None)
     named = "'tracks/split.txt'" if beside is None else repr(str(beside))
-    helps = "" if ranges.record is not None else (": were they shifted? name what was added, as the line shift of split.txt has it, as by "
-                                                  f"shift=(1000000, 0), or that file, as by record={named}")
-    refuse(f"crs: the ranges lie {where}{helps or ': name another one'}", "crs")
+    refuse(f"crs: the ranges lie {where}: were they shifted? name what was added, as the line shift of split.txt has it, as by "
+           f"shift=(1000000, 0), or that file, as by record={named}", "crs")
 
 
 def check_record(record: Record, report: Report, files: Iterable[Path]) -> None:
