@@ -96,6 +96,17 @@ def test_clocks_under_a_title_of_hours(splitter, hours, minutes, makes, words):
     assert read_fixes(frame, time="date,hour", time_format=form)["time"].tolist() == (DAY + pandas.to_timedelta(minutes, unit="min")).tolist()
 
 
+@pytest.mark.parametrize("makes", [lambda part: part, str])
+def test_parts_of_a_day_that_are_joined_to_a_day(splitter, makes):
+    frame = PLACES.assign(date="2024-03-01", clock=[makes(part) for part in (0.0625, 0.25, 0.5625)])
+    numbers = "frame['clock']" if makes is not str else "frame['clock'].astype(float)"
+    helps = f"pandas.to_datetime(frame['date']) + pandas.to_timedelta({numbers}, unit='D').dt.round('s')"
+    assert refusal(frame, time="date,clock")[0].endswith(f": make moments of both, as by {helps}, in a column that time names alone")
+    frame["moment"] = eval(helps, {"pandas": pandas, "frame": frame})
+    moments = read_fixes(frame.drop(columns=["date", "clock"]), time="moment")["time"]
+    assert moments.tolist() == (DAY + pandas.to_timedelta([90, 360, 810], unit="min")).tolist()
+
+
 def test_parts_of_a_day_under_a_title_of_hours(splitter):
     frame = PLACES.assign(date="2024-03-01", hour=[0.020833333, 0.25, 0.5625])
     moment = "pandas.to_datetime(frame['date']) + pandas.to_timedelta(frame['hour'], unit='D').dt.round('s')"

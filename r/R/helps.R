@@ -43,13 +43,16 @@ help_for_time <- function(found, frame) {
   digits <- digits_of_clocks(as.list(frame$x)[[last]], last)
   if (digits > nchar(cells[length(cells)])) return(paste0(found[2], ": ", help_for_clocks(digits, own)))
   is_part <- length(titles) == 2 && grepl("^[0-9]+[.][0-9]+$", cells[2])
-  if (is_part && !is.null(frame$x)) paste0(found[2], ": ", help_for_decimals(titles[1], last, frame)) else found[1]
+  if (!is_part || is.null(frame$x)) return(found[1])
+  known <- suppressWarnings(as.numeric(as.character(as.list(frame$x)[[last]])))
+  paste0(found[2], ": ", help_for_decimals(titles[1], last, frame, all(known < 1, na.rm = TRUE)))
 }
 
 # What helps where hours have decimals, or are parts of a day.
 help_for_decimals <- function(day, hours, frame, are_parts = FALSE) {
   moment <- moment_of_days(as.list(frame$x)[[day]], day, c(frame$given$tz, frame$clock$tz, "UTC")[1])
   own <- paste0("x[[\"", hours, "\"]]")
+  if (!is.numeric(as.list(frame$x)[[hours]])) own <- paste0("as.numeric(", own, ")")
   paste0("make moments of both, as by ", moment, " + ", if (are_parts) paste0("round(86400 * ", own, ")") else paste("3600 *", own),
          ", in a column that time names alone")
 }

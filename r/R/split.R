@@ -53,7 +53,7 @@ refusal_of_split <- function(status, fault) {
 # Options of the command line in a text, as arguments of R. A word behind one is its value, unless it goes on with the sentence.
 as_arguments <- function(text) {
   form <- paste0("--([a-z]+(?:-[a-z]+)*)(?:([= ])(?!(?:and|or|is|out|times|leaves|names|of|to|for|in|that|beside|where|a|the|",
-                 "takes|was|has)\\b)('[^']*'|(?<==)[^ ]+?(?=[,;:)]?(?: |$))|[^ ;:?()]*[^ ,;:?().]))?")
+                 "takes|was|has)\\b)('[^']*'|[A-Z]+:[0-9]+|(?<==)[^ ]+?(?=[,;:)]?(?: |$))|[^ ;:?()]*[^ ,;:?().]))?")
   places <- gregexpr(form, text, perl = TRUE)
   regmatches(text, places) <- lapply(regmatches(text, places), function(found) vapply(found, as_argument, ""))
   gsub("( = (\"[^\"]*\"|[0-9.]+)) (?=[a-z_]+ = )", "\\1, ", text, perl = TRUE)  # several stand one behind the other

@@ -6,6 +6,8 @@ from __future__ import annotations
 import re
 from typing import Any, Callable, Mapping, Sequence
 
+import pandas
+
 from ..errors import one_line
 from .cells import cells_of
 from .letters import like_title
@@ -43,8 +45,9 @@ def of_time(found: Refusal, options: Mapping[str, Any], columns: Sequence[Column
     digits = digits_of_clocks(last, columns)
     if digits and len(cells[-1]) < digits:
         return f"{found[1]}: {clocks_of(digits, last, columns)}"
-    if len(titles) == 2 and columns and re.fullmatch("[0-9]+[.][0-9]+", cells[1]):
-        return f"{found[1]}: {help_for_decimals(titles[0], last)}"
+    own = next((column.values for column in columns if column.title == last), None)
+    if len(titles) == 2 and own is not None and re.fullmatch("[0-9]+[.][0-9]+", cells[1]):
+        return f"{found[1]}: {help_for_decimals(titles[0], last, own)}"
     return found[0]
 
 
@@ -55,10 +58,13 @@ def clocks_of(digits: int, title: str, columns: Sequence[Column]) -> str:
             f"frame[{title!r}]{'.astype({})'.format(repr('Int64')) if are_numbers else ''}.astype('string').str.zfill({digits})")
 
 
-def help_for_decimals(day: str, hours: str, unit: str = "h") -> str:
-    """What helps where hours have decimals, or are parts of a day."""
-    return (f"make moments of both, as by pandas.to_datetime(frame[{day!r}]) + pandas.to_timedelta(frame[{hours!r}], unit={unit!r})"
-            f"{'.dt.round({})'.format(repr('s')) if unit == 'D' else ''}, in a column that time names alone")
+def help_for_decimals(day: str, hours: str, own: pandas.Series) -> str:
+    """What helps where hours have decimals, or are parts of a day, as numbers or as text."""
+    numbers = f"frame[{hours!r}]{'' if is_number(own) else '.astype(float)'}"
+    is_part = pandas.to_numeric(own.dropna().astype(str), errors="coerce").max() < 1
+    unit, how = ("D", ".dt.round('s')") if is_part else ("h", "")
+    return (f"make moments of both, as by pandas.to_datetime(frame[{day!r}]) + pandas.to_timedelta({numbers}, unit={unit!r}){how}, "
+            "in a column that time names alone")
 
 
 def of_hours(found: Refusal, options: Mapping[str, Any], columns: Sequence[Column]) -> str:
@@ -73,7 +79,7 @@ def of_hours(found: Refusal, options: Mapping[str, Any], columns: Sequence[Colum
                 "or remove it")
     if not is_number(own) or not own.dropna().astype(float).between(0, 24).all():
         return found[0]
-    return f"{found[1]}: {help_for_decimals(found[3], found[2], 'D' if own.dropna().astype(float).max() < 1 else 'h')}, or remove it"
+    return f"{found[1]}: {help_for_decimals(found[3], found[2], own)}, or remove it"
 
 
 def of_moments(found: Refusal, _: Mapping[str, Any], columns: Sequence[Column]) -> str:

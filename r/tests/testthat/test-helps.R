@@ -329,3 +329,22 @@ test_that("levels that are texts of per cent, and groups in a list, are said as 
   refused("by is a list of 1 vector, and one vector is wanted: take it, as by by[[1]]", by = list(table$sex))
   refused("by is a list of 2 vectors, and one vector is wanted: join them, as by paste(by[[1]], by[[2]])", by = list(table$sex, table$sex))
 })
+
+test_that("parts of a day that are joined to a day become moments by what is said, and a system is named whole", {
+  skip_without_split()
+  parts <- c(1.5, 7.5, 13.5, 19.5) / 24
+  moments <- as.POSIXct("2024-05-01", tz = "UTC") + round(86400 * parts)
+  x <- data.frame(animal = "a", date = as.Date("2024-05-01"), clock = parts, easting = 5e5 + c(0, 100, 100, 0), northing = 5e6 + c(0, 0, 100, 100))
+  helps <- list(numbers = "as.POSIXct(x[[\"date\"]], tz = \"UTC\") + round(86400 * x[[\"clock\"]])",
+                texts = "as.POSIXct(x[[\"date\"]], tz = \"UTC\") + round(86400 * as.numeric(x[[\"clock\"]]))")
+  for (kind in names(helps)) {
+    if (kind == "texts") x$clock <- as.character(x$clock)
+    expect_error(home_range(x, time = c("date", "clock"), quiet = TRUE),
+                 paste0("make moments of both, as by ", helps[[kind]], ", in a column that time names alone"), fixed = TRUE)
+    x$moment <- eval(parse(text = helps[[kind]]))
+    expect_equal(as.numeric(read_fixes(x[c("animal", "moment", "easting", "northing")], time = "moment", quiet = TRUE)$time), as.numeric(moments))
+    x$moment <- NULL
+  }
+  named <- data.frame(animal = "a", time = moments, x[c("easting", "northing")], srid = 31467)
+  expect_error(home_range(named, quiet = TRUE), "name it, as by crs = \"EPSG:31467\", or remove it", fixed = TRUE)
+})
