@@ -116,7 +116,7 @@ def arc_to(latitude):
 
 
 @pytest.mark.parametrize("crs, meridian, latitude, scale, south, name", [
-    (2180, 19, 52, 0.9993, 5_300_000, "ETRF2000-PL / CS92"), (3059, 24, 57, 0.9996, 6_000_000, "LKS92 / Latvia TM"),
+    (2180, 19, 52, 0.9993, 5_300_000, "ETRF2000-PL / CS92"), (3059, 24, 57, 0.9996, 6_000_000, "LKS-?92 / Latvia TM"),
     (31467, 9, 50, 1, 0, None), (23700, 19.5, 47, 1, 0, "HD72 / EOV")])
 def test_points_of_systems_whose_x_is_the_northing(splitter, crs, meridian, latitude, scale, south, name):
     points = degrees_at(meridian, latitude).to_crs(crs)

@@ -251,7 +251,7 @@ def refuse_titles(values: Any, frame: pandas.DataFrame) -> None:
 
 def joined_texts(titles: Sequence[str]) -> str:
     """How the texts of columns, or of years and months, are joined."""
-    texts = (f"fixes['time'].dt.strftime({FORMS[title]!r})" if title in FORMS else f"fixes[{title!r}].astype(str)" for title in titles)
+    texts = (f"fixes['time'].dt.strftime({FORMS[title]!r})" if title in FORMS else f"fixes[{str(title)!r}].astype(str)" for title in titles)
     return " + ' ' + ".join(texts)
 
 

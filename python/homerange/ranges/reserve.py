@@ -123,7 +123,7 @@ def check_shape(shape: Any, where: str, helps: str, are_degrees: bool = False) -
     """Refuses a shape that bounds nothing, with where it stands."""
     from shapely.validation import explain_validity
 
-    if not numpy.isfinite(shape.bounds).all():
+    if not shape.is_empty and not numpy.isfinite(shape.bounds).all():
         refuse(f"{where}the boundary of the reserve has a corner that is no number: mend it, or leave it out")
     if are_degrees and not shape.is_empty and (numpy.abs(numpy.round(shape.bounds, 6)) > (2 * HALF_TURN, HALF_TURN / 2) * 2).any():
         refuse(f"{where}the boundary of the reserve goes to {shape.bounds[2]:.10g}, {shape.bounds[3]:.10g}, which is no longitude and latitude, "

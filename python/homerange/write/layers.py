@@ -65,9 +65,11 @@ def without_date() -> Iterator[None]:
 
 @contextmanager
 def plain_path(path: Path) -> Iterator[Path]:
-    """A path in UTF-8, as GDAL takes them, of a file that comes to another one's place where that is none."""
-    if fault_of_text(os.path.abspath(path)) is None:
-        yield path
+    """A path in UTF-8, as GDAL takes them, of a file that comes to another one's place where that is none. pyogrio reads paths as
+    addresses, and so leaves out ends of lines and blanks at the start."""
+    whole = os.path.abspath(path)
+    if fault_of_text(whole) is None and whole.isprintable():
+        yield Path(whole)
         return
     with tempfile.TemporaryDirectory(prefix="homerange-") as folder:
         own = Path(folder, "ranges.gpkg")
