@@ -1,4 +1,6 @@
 """Reference systems that mislead: axes that go west or south, and grids on which lengths differ by direction."""
+import re
+
 import numpy
 import pandas
 import pytest
@@ -115,20 +117,19 @@ def arc_to(latitude):
     return float((6378137 * (1 - square) / (1 - square * numpy.sin(middles) ** 2) ** 1.5).sum() * numpy.radians(latitude) / 200_000)
 
 
-@pytest.mark.parametrize("crs, meridian, latitude, scale, south, name", [
-    (2180, 19, 52, 0.9993, 5_300_000, "ETRF2000-PL / CS92"), (3059, 24, 57, 0.9996, 6_000_000, "LKS-?92 / Latvia TM"),
-    (31467, 9, 50, 1, 0, None), (23700, 19.5, 47, 1, 0, "HD72 / EOV")])
-def test_points_of_systems_whose_x_is_the_northing(splitter, crs, meridian, latitude, scale, south, name):
+@pytest.mark.parametrize("crs, meridian, latitude, scale, south", [
+    (2180, 19, 52, 0.9993, 5_300_000), (3059, 24, 57, 0.9996, 6_000_000), (31467, 9, 50, 1, None), (23700, 19.5, 47, 1, None)])
+def test_points_of_systems_whose_x_is_the_northing(splitter, crs, meridian, latitude, scale, south):
     points = degrees_at(meridian, latitude).to_crs(crs)
     fixes = quietly(read_fixes, points)
-    if name is not None and crs != 23700:
+    if south is not None:
         assert fixes["easting"].iloc[0] == 500_000 and fixes["northing"].iloc[0] == round(scale * arc_to(latitude) - south)
     box = quietly(home_range, fixes, levels=100).polygons().to_crs(4326).total_bounds
     assert box == pytest.approx([meridian - 0.003, latitude - 0.005, meridian + 0.004, latitude + 0.006], abs=2e-5)
     table = points[["animal", "timestamp"]].assign(x=points.geometry.x, y=points.geometry.y)
     for titles in (("x", "y"), ("X", "Y")):
         own = pandas.DataFrame(table.rename(columns=dict(zip("xy", titles))))
-        with pytest.raises(FrameError, match=f"^crs: x of {name or '.*'} is the northing, and that of a table the easting: say which it is, as by "
+        with pytest.raises(FrameError, match=f"^crs: x of {re.escape(points.crs.name)} is the northing, and that of a table the easting: say which it is, as by "
                            "easting='y', northing='x', or by easting='x', northing='y'$") as fault:
             read_fixes(own, crs=crs)
         assert fault.value.kind == "ambiguous"
