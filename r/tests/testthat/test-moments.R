@@ -97,7 +97,7 @@ test_that("fixes that write.csv writes are read as they were", {
   skip_without_split()
   times <- as.POSIXct("2024-03-30 22:00", tz = "UTC") + 86400 * 0:3  # clocks are moved on the second day
   for (zone in c("UTC", "Europe/Vienna", "America/St_Johns", "Asia/Kathmandu")) {
-    table <- data.frame(animal = "a", time = times, easting = c(500000, 500100, 600000, 500001), northing = 5300000 + c(0, 1, 5, 2))
+    table <- data.frame(animal = "a", time = times, easting = c(500002, 500101, 600003, 500001), northing = 5300004 + c(0, 1, 5, 2))
     fixes <- quietly(read_fixes(table, tz = zone, zone = "33N"))
     path <- file.path(local_folder(), "fixes.csv")
     utils::write.csv(fixes, path, row.names = FALSE)
@@ -108,8 +108,8 @@ test_that("fixes that write.csv writes are read as they were", {
     expect_identical(class(fixes$time), c("POSIXct", "POSIXt"))
   }
   changed <- fixes
-  changed[1, "easting"] <- 500002
-  expect_identical(quietly(read_fixes(changed))$easting, c(500002, 500100, 600000, 500001))
+  changed[1, "easting"] <- 500004
+  expect_identical(quietly(read_fixes(changed))$easting, c(500004, 500101, 600003, 500001))
 })
 
 test_that("moments without a zone under a title that says UTC are refused in a session of another zone", {
