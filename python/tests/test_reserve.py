@@ -9,7 +9,6 @@ from frames import frame_of, quietly
 from homerange import FrameError, HomeRangeNote, home_range, share_inside
 
 geopandas = pytest.importorskip("geopandas")
-import pandas  # noqa: E402
 import shapely.ops  # noqa: E402
 from shapely.geometry import GeometryCollection, MultiPolygon, Point, Polygon, box  # noqa: E402
 
