@@ -339,7 +339,7 @@ def test_levels_of_the_index_stand_beside_fixes_as_columns(splitter):
     assert home_range(frame.set_index("herd"), by="herd").animals == home_range(fixes.set_index("herd"), by="herd").animals == ["a x", "a y"]
     assert home_range(fixes.iloc[1:].set_index("herd"), by="herd").animals == home_range(fixes, by="herd").animals
     with pytest.raises(FrameError, match="^by='month' is a period of the calendar, and a column too"):
-        home_range(frame.assign(month=1).set_index("month"), by="month")
+        home_range(frame.assign(month=3).set_index("month"), by="month")
     with pytest.warns(HomeRangeNote, match="^not in the fixes, which have columns of these titles: animal$"):
         read_fixes(frame.assign(tag=1).set_index("animal"), animal="tag")
     other = fixes.assign(timestamp=fixes["timestamp"] + pandas.Timedelta("1h")).set_index("timestamp")

@@ -1,4 +1,7 @@
 """GeoDataFrames: which are taken, which are refused, and the CRS of the answers."""
+import re
+
+import pandas
 import pytest
 from exact import cloud, hull
 from frames import frame_of, told
@@ -123,6 +126,21 @@ def test_a_crs_is_of_metres_that_have_a_way_to_degrees(splitter, crs, said):
         else:
             with pytest.raises(FrameError, match=f"^crs: {said}"):
                 call()
+
+
+@pytest.mark.parametrize("crs, is_theirs", [(3794, True), (27700, False), (3763, False), (2154, False)])
+def test_a_crs_is_that_of_degrees_beside_the_metres(crs, is_theirs):
+    """Eastings and northings of D96/TM, as PROJ has them."""
+    table = pandas.DataFrame({"animal": "hare", "second": range(4), "lon": [14.2, 14.2512, 14.1833, 14.2301], "lat": [46.3, 46.3121, 46.2887, 46.3554]})
+    points = geopandas.points_from_xy(table["lon"], table["lat"], crs=4326).to_crs(3794)
+    table["x"], table["y"] = points.x.round(), points.y.round()
+    if is_theirs:
+        assert read_fixes(table, crs=crs)["easting"].tolist() == table["x"].tolist()
+        return
+    name = geopandas.GeoSeries([], crs=crs).crs.name
+    with pytest.raises(FrameError, match=f"^crs: by column 3 'lon' and column 4 'lat', which are not read, the first fix is near 14.2 E 46.3 N, and by {re.escape(name)} "
+                                         "no fix is within 20 km of there: name the system of easting and northing, or leave out the columns that are not theirs$"):
+        read_fixes(table, crs=crs)
 
 
 def test_points_in_metres_that_are_called_degrees_are_refused_with_what_helps():

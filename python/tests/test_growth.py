@@ -8,7 +8,7 @@ import pytest
 from exact import area2, cloud, hull
 from frames import frame_of
 
-from homerange import FrameError, home_range, read_report
+from homerange import FrameError, HomeRangeNote, home_range, read_report
 from homerange.ranges.growth import growth_of
 from homerange.program import find_program
 from homerange.record import read_record
@@ -109,9 +109,11 @@ def test_overview_of_a_split(made: Path):
 
 
 def test_overview_of_files_alone(made: Path):
-    found = read_report(made / "report.txt", files=[made / "a.csv"]).overview().iloc[0]
+    with pytest.warns(HomeRangeNote, match="^coordinates are shifted by 100 m east and 200 m north, as .*, and lie so here: name it, as by record="):
+        found = read_report(made / "report.txt", files=[made / "a.csv"]).overview().iloc[0]
     assert found["records":"used"].to_dict() == {"records": 6, "left_use": 2, "used": 4}
-    assert pandas.isna(read_report(made / "report.txt").overview()["records"][0])
+    with pytest.warns(HomeRangeNote, match="^coordinates are shifted by "):
+        assert pandas.isna(read_report(made / "report.txt").overview()["records"][0])
 
 
 def test_a_record_is_read(made: Path):

@@ -256,11 +256,11 @@ def test_animals_that_were_named_otherwise_are_not_left_out():
     assert fewer.left_out().values.tolist() == [["", "chosen", 1]]
 
 
-@pytest.mark.parametrize("title", ["outlier", "Is.Outlier", "lc", "event_visible"])
-def test_columns_that_were_added_are_refused_as_in_any_table(title):
+@pytest.mark.parametrize("title, cells", [("outlier", [True, False] * 2), ("Is.Outlier", [True, False] * 2), ("lc", [3, "B"] * 2), ("event_visible", [True, False] * 2)])
+def test_columns_that_were_added_are_refused_as_in_any_table(title, cells):
     fixes = read_fixes(frame_of(a=SQUARE))
     with pytest.raises(FrameError, match=f"^column [0-9] '{title}' may have"):
-        home_range(fixes.assign(**{title: [True, False] * 2}))
+        home_range(fixes.assign(**{title: cells}))
 
 
 def test_columns_that_were_there_are_not_judged_again():

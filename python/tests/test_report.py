@@ -2,6 +2,7 @@
 import functools
 import re
 import subprocess
+import warnings
 from pathlib import Path
 
 import numpy
@@ -11,7 +12,7 @@ from exact import area2, cloud, hull, nearest
 from frames import frame_of
 
 import homerange
-from homerange import FileError, FrameError, ReportError, read_report
+from homerange import FileError, FrameError, HomeRangeNote, ReportError, read_report
 from homerange.program import find_program
 from homerange.ranges.outer import kept_of, outer_fixes, polygon_kept
 from homerange.report import kept_places, read
@@ -337,7 +338,24 @@ def test_a_report_of_tracks_that_were_shifted_lies_where_its_system_is(splitter,
         read(shift=(-1_000_000, -2_000_000))
     with pytest.raises(FrameError, match="^shift=\\(-1000000, -2000000\\) is not \\(1000000, 2000000\\), by which split.txt has coordinates shifted"):
         read(shift=(-1_000_000, -2_000_000), record="tracks/split.txt")
-    assert read(crs=None).box[0] == 256_000
+    beside = tmp_path / "tracks" / "split.txt"
+    said = (f"coordinates are shifted by 1000000 m east and 2000000 m north, as {beside} has it, and lie so here: name it, as by "
+            f"record={str(beside)!r}")
+    elsewhere = tmp_path / "elsewhere.txt"
+    elsewhere.write_bytes(report.read_bytes())
+    with pytest.warns(HomeRangeNote, match=f"^{re.escape(said)}$"):
+        assert read(crs=None).box[0] == 256_000
+    with pytest.warns(HomeRangeNote, match=f"^{re.escape(said)}$"):
+        assert read_report(elsewhere, files=[tmp_path / "tracks" / "fox.csv"]).box[0] == 256_000
+    assert read_report(elsewhere).box[0] == 256_000
+    with warnings.catch_warnings():
+        warnings.simplefilter("error")
+        read(crs=None, files=[tmp_path / "tracks" / "fox.csv"], record=beside)
+        read(crs=None, files=[tmp_path / "tracks" / "fox.csv"], shift=(1_000_000, 2_000_000))
+        beside.write_text(beside.read_text("utf-8").replace("shift,1000000,2000000\n", ""), "utf-8")
+        read(crs=None, files=[tmp_path / "tracks" / "fox.csv"])
+        beside.write_text("none", "utf-8")
+        read(crs=None, files=[tmp_path / "tracks" / "fox.csv"])
 
 
 def test_what_is_no_system_of_a_report(files):

@@ -472,3 +472,59 @@ def test_moments_labelled_utc_whose_title_says_another_clock_are_refused(splitte
     assert read_fixes(naive, tz="Europe/Vienna")["time"].tolist() == clock.tz_localize("Europe/Vienna").tolist()
     utc = frame.rename(columns={title: "time_utc"})
     assert read_fixes(utc, tz="Europe/Vienna")["time"].tolist() == read_fixes(utc)["time"].tolist() == clock.tz_localize("UTC").tolist()
+
+
+LABELLED = ", and the moments of time are labelled UTC: if they are, remove it, and else give them the zone of their clock, as by "
+
+
+@pytest.mark.parametrize("title, values, said", [
+    ("utc_offset", 2, "says of which zone times are, and is not read"), ("timezone", "Europe/Ljubljana", "says of which zone times are, and is not read"),
+    ("tz", "CEST", "says of which zone times are, and is not read"), ("isdst", 1, "says that times are by the clock of a summer (row 0)"),
+    ("isdst", [0, 0, None, 1], "says that times are by the clock of a summer (row 3)"),
+    ("DST", [False, True, True, True], "says that times are by the clock of a summer (row 1)"),
+    ("summer_time", ["no", "yes", "yes", "no"], "says that times are by the clock of a summer (row 1)")])
+def test_moments_labelled_utc_beside_a_column_that_says_another_clock_are_refused(splitter, title, values, said):
+    clock = pandas.DatetimeIndex(pandas.date_range("2024-05-01 08:00", periods=4, freq="h"))
+    frame = frame_of(a=SQUARE).drop(columns="timestamp").assign(time=clock.tz_localize("UTC"), **{title: values})
+    other = frame.assign(time=frame["time"].astype(object))
+    for table, own in ((frame, "frame['time']"), (other, "pandas.to_datetime(frame['time'])")):
+        with pytest.raises(FrameError) as fault:
+            read_fixes(table)
+        assert re.sub("^column [0-9]+ ", "", str(fault.value)) == (
+            f"'{title}' {said}{LABELLED}{own}.dt.tz_localize(None).dt.tz_localize('Europe/Ljubljana')")
+        assert fault.value.kind == "columns"
+    with pytest.raises(FrameError, match=re.escape(f"{LABELLED}frame.index.tz_localize(None).tz_localize('Europe/Ljubljana')")):
+        read_fixes(frame.set_index("time"))
+    levels = frame.set_index([pandas.Index(["x"] * 4), "time"]).rename_axis([None, None])
+    with pytest.raises(FrameError, match=re.escape("get_level_values(1).tz_localize(None)")):
+        read_fixes(levels)
+    helped = frame.assign(time=frame["time"].dt.tz_localize(None).dt.tz_localize("Europe/Ljubljana"))
+    assert read_fixes(helped)["time"].tolist() == clock.tz_localize("Europe/Ljubljana").tolist()
+    assert read_fixes(frame.drop(columns=title))["time"].tolist() == clock.tz_localize("UTC").tolist()
+    none = {"utc_offset": 0, "timezone": "UTC", "tz": "UTC"}.get(title, 0)
+    assert read_fixes(frame.assign(**{title: none}))["time"].tolist() == clock.tz_localize("UTC").tolist()
+
+
+def test_texts_beside_a_column_of_offsets_are_still_told_to_name_their_zone(splitter):
+    clock = pandas.Series(pandas.date_range("2024-05-01 08:00", periods=4, freq="h"))
+    texts = frame_of(a=SQUARE).drop(columns="timestamp").assign(time=clock.astype(str), capture=clock.dt.tz_localize("UTC"), utc_offset=2)
+    for frame in (texts, texts.assign(time=clock)):
+        with pytest.raises(FrameError, match="name the zone, as by tz='Europe/Ljubljana', or write"):
+            read_fixes(frame)
+
+
+@pytest.mark.parametrize("unit, of_numbers, name, parts", [("s", "ms", "milliseconds", 10 ** 3), ("ms", "us", "microseconds", 10 ** 6)])
+def test_moments_of_another_part_of_a_second_are_refused_with_it(splitter, unit, of_numbers, name, parts):
+    clock = 1714550400 + 3600 * numpy.arange(4)
+    try:
+        times = pandas.Series((clock * parts).astype(f"datetime64[{unit}]"))
+    except pandas.errors.OutOfBoundsDatetime:  # before pandas 2, which makes no such column itself
+        times = pandas.Series(pandas.arrays.DatetimeArray._simple_new((clock * parts).astype(f"datetime64[{unit}]"), dtype=numpy.dtype(f"datetime64[{unit}]")))
+    frame = frame_of(a=SQUARE).drop(columns="timestamp").assign(time=times)
+    with pytest.raises(FrameError) as fault:
+        read_fixes(frame)
+    assert str(fault.value) == (
+        f"row 0: time is far behind the year 9999 and not a time such as 2024-05-01 00:30:04: if its numbers are {name} since 1970, make "
+        f"moments of them, as by frame['time'] = pandas.to_datetime(frame['time'].astype('int64'), unit='{of_numbers}', utc=True)")
+    helped = frame.assign(time=pandas.to_datetime(frame["time"].astype("int64"), unit=of_numbers, utc=True))
+    assert [time.timestamp() for time in read_fixes(helped)["time"]] == clock.tolist()

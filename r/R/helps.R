@@ -5,6 +5,8 @@ titles_of_types <- c("gps-fix-type", "fix-type", "fixtype", "fix-status", "fixst
 days_since <- list("days since 1970" = c(7305, 32874, 0), "days of Excel" = c(32874, 49310, 25569),  # 1990 to 2059, to 2034, and 1993 to 2077
                    "modified Julian days" = c(49310, 80000, 40587), "Julian days" = c(2400000, 2500000, 2440587.5))
 parts_since_1970 <- list("13" = c("milliseconds", "1e3"), "16" = c("microseconds", "1e6"), "19" = c("nanoseconds", "1e9"))  # by their digits
+parts_of_second <- c("seconds" = 1, "milliseconds" = 1e3, "microseconds" = 1e6, "nanoseconds" = 1e9)
+titles_of_times <- c("second", "timestamp", "t-", "date", "time", "datetime", "date-time", "acquisition-time", "tracked-at")
 sign_helps <- c("%OS" = "%S has the decimals of seconds: write it for %OS", "%T" = "%H:%M:%S stands for %T", "%F" = "%Y-%m-%d stands for %F",
                 "%R" = "%H:%M stands for %R", "%e" = "%d stands for %e",
                 "%z" = "a form has no offset: make moments of its texts, as by as.POSIXct(.., format = .., tz = \"UTC\")",
@@ -27,6 +29,34 @@ digits_of_clocks <- function(column, title) {
 
 forms_of_clocks <- c("4" = "%H%M", "6" = "%H%M%S")
 
+# Moments or days far behind the year 9999, whose numbers may be of another part of a second, or seconds; NULL of others.
+help_for_far <- function(found, frame) {
+  at <- match(found[3], one_line(titles_in(frame)))
+  column <- if (!is.na(at)) as.list(frame$x)[[at]]
+  if (!inherits(column, c("POSIXt", "Date"))) return(NULL)
+  numbers <- as.numeric(if (inherits(column, "POSIXlt")) as.POSIXct(column) else column)
+  seconds <- max(numbers[is.finite(numbers)], 0) / parts_of_second
+  kind <- which(seconds >= 1e8 & seconds < 1e10)[1]  # from 1973 to 2286
+  if (is.na(kind) || kind == 1 && !inherits(column, "Date")) return(NULL)
+  own <- paste0("x[[\"", titles_in(frame)[at], "\"]]")
+  paste0(sub(paste0("'", found[4], "'"), "far behind the year 9999", found[2], fixed = TRUE), ": if its numbers are ", names(parts_of_second)[kind],
+         " since 1970, make moments of them, as by ", own, " <- as.POSIXct(as.numeric(", own, ")", if (kind > 1) paste0(" / 1e", 3 * (kind - 1)),
+         ", origin = \"1970-01-01\", tz = \"UTC\")")
+}
+
+# A column that says of which zone times are, beside moments labelled UTC, to which the zone of an option does nothing.
+help_for_labels <- function(found, frame) {
+  titles <- titles_in(frame)
+  named <- titles_of_time(frame)
+  named[named %in% frame$renamed[["to"]]] <- frame$renamed[["from"]]
+  usual <- if (length(named)) named else titles[plain_title(titles) %in% titles_of_times & !vapply(as.list(frame$x), is.numeric, NA)]
+  times <- if (length(usual)) usual else frame$moments
+  if (!length(times) || !all(times %in% frame$moments)) return(found[1])
+  labelled <- labelled_in(frame, times)
+  if (!length(labelled)) return(found[1])
+  paste0(found[2], beside_labels(labelled[1]))
+}
+
 # How clocks are written with all their digits.
 help_for_clocks <- function(digits, own) {
   paste0("write clocks of ", if (digits == 4) "four" else "six", " digits, as by ", own, " <- sprintf(\"%0", digits, "d\", as.integer(", own, "))")
@@ -34,6 +64,8 @@ help_for_clocks <- function(digits, own) {
 
 # A time that is joined of a day and a clock without its zeros, or of a day and hours with decimals.
 help_for_time <- function(found, frame) {
+  far <- if (grepl("^(-?inf|[0-9]{5,}-.*)$", found[4])) help_for_far(found, frame)
+  if (!is.null(far)) return(far)
   titles <- titles_of_time(frame)
   cells <- strsplit(found[4], " ", fixed = TRUE)[[1]]
   are_alike <- length(cells) == length(titles) && length(titles) >= 2
@@ -45,7 +77,8 @@ help_for_time <- function(found, frame) {
   is_part <- length(titles) == 2 && grepl("^[0-9]+[.][0-9]+$", cells[2])
   if (!is_part || is.null(frame$x)) return(found[1])
   known <- suppressWarnings(as.numeric(as.character(as.list(frame$x)[[last]])))
-  paste0(found[2], ": ", help_for_decimals(titles[1], last, frame, all(known < 1, na.rm = TRUE)))
+  said <- sub(": name its form too, .*$", "", found[2])  # hours with decimals look as clocks with a point
+  paste0(said, ": ", help_for_decimals(titles[1], last, frame, all(known < 1, na.rm = TRUE)))
 }
 
 # What helps where hours have decimals, or are parts of a day.
@@ -237,6 +270,7 @@ helps <- list(
   list("^no fix is left; left out by reason: type [0-9]+$", help_for_types),
   list("^((.*) is '([0-9.]+)', (which (?:looks like|is no second since 1970).*)): write a time such as .*$", help_for_count),
   list("^there is no ([^:,]*)$", help_for_none), list("^time_format is '(.*)', which is no form of a day.*$", help_for_form),
+  list("^(column [0-9]+ '.*' says of which zone times are, and is not read): name the zone, .*$", help_for_labels),
   list("^tz='((?:UTC|GMT)?)([+-])0?([0-9]{1,2})(?::?00)?' is no time zone such as .*$", help_for_offset),
   list("^EPSG:.* is no zone as 33N$", function(found, frame) paste0(found[1], ": a reference system is named by crs"))
 )

@@ -194,6 +194,10 @@ text_of_bound <- function(option, value) {
   if (!inherits(value, c("Date", "POSIXt"))) {
     refuse("option", argument_text(option, value), " is neither a text such as \"2024-05-01\" nor a date")
   }
+  if (inherits(value, "POSIXt")) {
+    zone <- zone_of_times(as.POSIXct(value))
+    refuse_odd_zone(paste0(option, ": the zone ", zone), zone, option, "option")
+  }
   cell <- cells_of_column(value, option)
   if (length(cell) != 1 || !grepl("^[0-9-]*[0-9]", cell)) {
     refuse("option", argument_text(option, value), " is neither a text such as \"2024-05-01\" nor a date")

@@ -31,7 +31,7 @@ no_marks <- c("argos-valid-location-algorithm", "argos-valid-location-manual", "
 options_of_columns <- c("animal", "time", "easting", "northing", "lon", "lat", "argos", "argos_class", "dop", "max_dop", "fix",
                         "fix_type", "sensor")  # which look at further columns
 # Lines that only say what was taken.
-form_of_taken <- "^(columns: |not read: |coordinates are those of |times are read as |column [0-9]+ '.*' is read as )"
+form_of_taken <- "^(columns: |not read: |coordinates are those of |times are read as |column [0-9]+ '.*' is read as |by column )"
 
 # A title as the program compares it.
 plain_title <- function(titles) gsub("[ .:_]", "-", in_small(trimws(readable(titles))))

@@ -100,6 +100,7 @@ fixes_of_tracks <- function(into, tz, crs, said, further = function(record, fixe
   }
   fixes <- read_tracks(into, record)
   table <- table_of_fixes(fixes, record, tz, further(record, fixes))
+  if (!is.null(crs)) check_elsewhere(crs, record$said, table)
   said <- c(vapply(said, as_arguments, "", USE.NAMES = FALSE), if (!is.null(crs)) check_scales(table, crs),
             line_of_encoding(unname(own_names(record)[record$tracks$animal])))
   facts <- facts_of_record(record, file.path(into, "split.txt"), tz, crs, said)

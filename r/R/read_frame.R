@@ -32,6 +32,7 @@ read_frame <- function(x, given, folder, has_rows) {
   check_text_form(frame, sources)
   check_turned_sides(frame$places$crs, said, given)
   refuse_other_clocks(frame, intersect(sources, frame$moments), folder)
+  refuse_summers(frame, sources, folder)
   said <- c(groups_of_dplyr(x, titles_of_animals(frame, said)), frame$places$line, frame$clock$line, of_frame(said, x))
   read <- fixes_of_tracks(into, c(given$tz, frame$clock$tz, "UTC")[1], frame$places$crs, said, function(record, fixes) {
     if (has_rows) rows <<- records_of_fixes(into, record, fixes)
@@ -373,7 +374,8 @@ clock_of_frame <- function(x, given, titles = readable(names(x))) {
   if (!length(zones) || zones[[1]] == "UTC") return(NULL)
   column <- readable(names(x)[is_time][1])
   if (!zones[[1]] %in% OlsonNames()) {
-    return(list(line = paste0("days and hours are those of UTC, since the zone ", zones[[1]], " of ", column, " has no name")))
+    return(list(line = paste0("days and hours are those of UTC, since the zone ", zones[[1]], " of ", column, " has no name",
+                              if (grepl(offsets_of_posix, zones[[1]])) paste0(", which R has ", hours_of_zone(zones[[1]])))))
   }
   list(tz = zones[[1]], line = paste0("days and hours are those of ", zones[[1]], ", the zone of ", column))
 }
@@ -384,7 +386,7 @@ zone_of_column <- function(column, turned) if (inherits(turned, "Date")) zone_of
 # The zone of date-times. What R has without one is by the clock of the session.
 zone_of_times <- function(times) {
   zone <- sub("^:", "", if (has_zone(times)) attr(times, "tzone")[1] else zone_of_session())
-  if (grepl(names_of_utc, zone)) "UTC" else zone
+  if (is_utc(zone)) "UTC" else zone
 }
 
 has_zone <- function(times) c(attr(times, "tzone"), "")[1] != ""

@@ -288,6 +288,7 @@ read_report <- function(file, start = NULL, files = NULL, record = NULL, ...) {
   ranges$call <- match.call()
   ranges$checksum <- checksum_of(file)
   if (!is.null(files)) ranges <- with_files(ranges, files)
+  if (is.null(record)) tell_shift(ranges, c(file, files))
   if (is.null(record)) return(ranges)
   ranges$record_file <- record
   own <- read_record(record)
@@ -296,6 +297,19 @@ read_report <- function(file, start = NULL, files = NULL, record = NULL, ...) {
   text <- paste(readLines(record, warn = FALSE, encoding = "UTF-8"), collapse = "\n")
   ranges$readings <- list(records = text, fixes = sum(own$tracks$records) + sum(own$left$fixes))
   ranges
+}
+
+# Says of ranges that were read without their record by how much they are shifted, where it lies beside the report or its files.
+tell_shift <- function(ranges, paths) {
+  for (path in unique(file.path(dirname(paths), "split.txt"))) {
+    own <- if (file.exists(path)) tryCatch(read_record(path), homerange_error = function(fault) NULL)
+    is_own <- any(own$shift != 0) && tryCatch(is.null(check_record_of(own, ranges)), homerange_error = function(fault) FALSE)
+    if (is_own) {
+      line <- sprintf("coordinates are shifted by %.0f m east and %.0f m north, as %s has it, and lie so here: name it, as by record = \"%s\"",
+                      own$shift[1], own$shift[2], path, path)
+      return(tell_note(line, "moved"))
+    }
+  }
 }
 
 # Refuses a record that is not that of a report, or not that of its files, where these are there.

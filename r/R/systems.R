@@ -13,6 +13,24 @@ has_sf <- function() requireNamespace("sf", quietly = TRUE)
 # Refuses a reference system, that of an argument or of points, which have it under the same name.
 refuse_crs <- function(..., kind = "crs") refuse(kind, "crs: ", ...)
 
+# How the program says where the first fix is by columns of longitude and latitude that are not read; and how many metres from there,
+# of which the tenth of a degree is 11,000 at most, some fix has to be.
+first_of_degrees <- "^by column [0-9]+ .*, which are not read, the first fix is near ([0-9.]+) ([EW]) ([0-9.]+) ([NS])$"
+most_away <- 20000
+
+# Refuses a reference system by which no fix is where the program said that the first one is.
+check_elsewhere <- function(crs, said, table) {
+  line <- grep(first_of_degrees, said, value = TRUE)[1]
+  if (is.na(line)) return(invisible())
+  part <- function(which) sub(first_of_degrees, paste0("\\", which), line)
+  degrees <- as.numeric(c(part(1), part(3))) * ifelse(c(part(2), part(4)) %in% c("W", "S"), -1, 1)
+  at <- sf::sf_project("+proj=longlat +datum=WGS84 +no_defs", crs$wkt, rbind(degrees), keep = TRUE, warn = FALSE)
+  away <- min(sqrt((table$easting - at[1])^2 + (table$northing - at[2])^2))
+  if (!is.na(away) && away <= most_away) return(invisible())
+  refuse_crs(line, ", and by ", crs$Name, " no fix is within ", most_away / 1000, " km of there: name the system of easting and northing, ",
+             "or leave out the columns that are not theirs")
+}
+
 # Refuses columns titled x and y, which nobody named as a side, of a system whose own x is the northing, as surveyors have it.
 check_turned_sides <- function(crs, said, given) {
   line <- in_small(sub(";.*", "", grep("^columns: ", said, value = TRUE)))

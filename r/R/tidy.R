@@ -54,6 +54,11 @@ refuse_verb <- function(...) {
   refuse("option", "ranges are no table, which ", .Generic, " wants: dplyr::filter(x, ..) chooses among them, and as.data.frame(x) is a table of theirs")
 }
 
+# Functions of sf that are of tables of shapes.
+refuse_shapes <- function(...) {
+  refuse("option", "ranges are no table of shapes, which ", .Generic, " wants: sf::st_as_sf(x) makes one of them")
+}
+
 # What an expression with these names makes of the rows of ranges, which have these columns: where it fails since there is nothing of a
 # name, as of the area at a level that was not asked, what there is is said. R says so in the language of the session.
 with_columns_known <- function(found, names, columns) {

@@ -68,7 +68,8 @@ columns
   of its own, or no time.}
 \item{easting, northing}{metres, rounded to whole ones or to decimetres.}
 Behind these stand the other columns of a data frame. \code{\link[=fixes]{Methods}} print and summarise it, take rows away and
-bind them.
+bind them. \code{write.csv} may write a number such as 500000 as \code{5e+05}, which \code{options(scipen = 100)} before it prevents; what it
+writes so is read back.
 }
 \section{Errors}{
 What cannot be right is refused as \code{homerange_data_error}, with the row, or the number of the record below the titles, and options

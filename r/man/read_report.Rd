@@ -18,7 +18,8 @@ read_report(file, start = NULL, files = NULL, record = NULL, ...)
 }
 \details{
 The unit of coordinates is that of the report's first line: decimetres after \code{unit,dm}, else metres. A report alone has no
-fixes and no coordinate reference system, so its polygons are of level 100 alone and in an unknown system. Fixes of
+fixes and no coordinate reference system, so its polygons are of level 100 alone and in an unknown system, and lie where their tracks do: a
+shift of these is in their record, and is said where that lies beside the report or its files. Fixes of
 \code{files} that are marked as not used are counted as left out.
 }
 \value{An object of class \code{home_range}, as of \code{\link{home_range}}.}

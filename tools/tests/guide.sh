@@ -145,7 +145,8 @@ print(sys.argv[1], len(areas), *(f"{number:.1f}" for number in [*percents, last]
     awk -F, -v OFS=, 'NR > 601 { $3 += 33 * (NR - 601) } { print }' examples/fox.csv >leaves.csv
     awk -F, -v OFS=, 'NR > 1 { $1 = "Canis" } NR == 1 || FNR > 1 { print }' examples/fox.csv examples/badger.csv >one_name.csv
     awk -F, -v OFS=, 'NR > 1 && FNR == NR { $1 = "f\303\266x" } NR == 1 || FNR > 1 { print }' examples/fox.csv examples/fox.csv \
-        >two_names.csv
+        >copy.csv
+    awk -F, -v OFS=, 'NR > 601 { $1 = "f\303\266x" } { print }' examples/fox.csv >two_names.csv
     awk -F, -v OFS=, 'FNR != NR { $2 += 3600 } NR == 1 || FNR > 1 { print }' examples/fox.csv examples/fox.csv >an_hour.csv
     awk -F, -v OFS=, 'NR > 1 { $2 = sprintf("%.0f", $2 + 2300000000) } { print }' examples/fox.csv >to_come.csv
     awk -F, 'NR == 1 { print "animal,second,longitude,latitude" }
@@ -156,6 +157,8 @@ print(sys.argv[1], len(areas), *(f"{number:.1f}" for number in [*percents, last]
         "$splitter" --into "asked/$table" $table.csv 2>said
         holds "nothing is asked of the table $table" [ "$?-$(grep -c '?$' said)" = 0-0 ]
     done
+    "$splitter" --into asked/copy copy.csv 2>said
+    holds "it is asked whether animals with the same fixes are one" grep -q '^split: all 1200 fixes of .* are the same: are they one?$' said
     "$splitter" --into asked/two_decimals two_decimals.csv 2>said
     holds "it is asked whether two decimals were rounded" grep -q 'have at most two decimals, .*: were they rounded?$' said
     for table in mercator exchanged; do

@@ -329,7 +329,7 @@ def test_groups_have_ranges_of_their_own():
 
 def test_ranges_of_a_period_go_by_the_clock_of_the_zone():
     moments = [QDateTime(2024, month, day, 23, 0, 0, 0, Qt.UTC) for month, day in ((5, 30), (5, 31), (6, 1), (6, 2), (7, 1))]
-    layer = layer_of([(row[0], "fox", moment, 7) for row, moment in zip(square(), moments)],
+    layer = layer_of([(row[0], "fox", moment, moment.date().month()) for row, moment in zip(square(), moments)],
                      fields="animal:string,timestamp:datetime,month:integer")
     for zone, counts in (("", {"2024-05": 2, "2024-06": 2, "2024-07": 1}),
                          ("Europe/Ljubljana", {"2024-05": 1, "2024-06": 3, "2024-07": 1})):

@@ -24,8 +24,12 @@ ghost use Rattle.split_reading.specs.Words.{texts};
 ghost use Rattle.split_refusal.specs.Refused.{IsOfNoFix};
 ghost use Rattle.split_said.specs.Order.{animals_in_order};
 
+use crate::beside::tell_beside;
+use crate::blank_names::tell_blank_names;
 use crate::coarse::tell_coarse;
+use crate::deployments::tell_deployments;
 use crate::missing::{tell_other_points, tell_unmet};
+use crate::other_clocks::tell_other_clocks;
 use crate::passed::refuse_passed_over;
 use crate::placed::{choice_of, grid_of, moved_by, place};
 use crate::predeployment::tell_predeployment;
@@ -443,6 +447,28 @@ fn split_read(
     split_sheet(alloc, &text, &sheet, wish, &columns, ledger, said)
 }
 
+// Says what there is to say of a table by its titles and texts.
+fn tell_table(
+    alloc: Global,
+    said: &mut Said,
+    bytes: &[u8],
+    asked: &Asked<'_>,
+    wish: &Wish<'_>,
+    export: &Export<'_>,
+) -> Result<(), Refusal>
+    ensures { IfErr result IsOfNoFix }
+{
+    tell_other_points(alloc, said, wish)?;
+    tell_unmet(alloc, said, bytes, asked, wish, export)?;
+    tell_predeployment(alloc, said, export)?;
+    tell_deployments(alloc, said, asked, export)?;
+    tell_unknown_words(alloc, said, asked, export)?;
+    tell_blank_names(alloc, said, asked, export)?;
+    tell_other_clocks(alloc, said, asked, wish, export)?;
+    tell_coarse(alloc, said, asked.unit, export)?;
+    tell_beside(alloc, said, wish, export)
+}
+
 /// Splits the bytes of an export at this path into the files of its tracks, and says what was guessed, left out, sorted, shifted
 /// or rounded. While records are read it tells how far it is.
 ///
@@ -468,10 +494,6 @@ pub fn split_export<P: Progress>(
     refuse_passed_over(alloc, asked.unit, wish, &export)?;
     let form = form_of_times(alloc, bytes, asked, wish, &export)?;
     let mut said = Said::new(alloc);
-    tell_other_points(alloc, &mut said, wish)?;
-    tell_unmet(alloc, &mut said, bytes, asked, wish, &export)?;
-    tell_predeployment(alloc, &mut said, &export)?;
-    tell_unknown_words(alloc, &mut said, asked, &export)?;
-    tell_coarse(alloc, &mut said, asked.unit, &export)?;
+    tell_table(alloc, &mut said, bytes, asked, wish, &export)?;
     split_read(alloc, asked, wish, &form, export, said)
 }

@@ -5,7 +5,7 @@ ghost use Rattle.split_refusal.specs.Refused.{IsOfNoFix};
 
 use crate::wish::Wish;
 use split_export::{Export, Texts};
-use split_refusal::{Kind, Refusal, sign_of};
+use split_refusal::{Kind, Refusal, sign_beside};
 use split_titles::trimmed;
 use std::alloc::{AllocError, Global};
 
@@ -39,7 +39,8 @@ impl<'a> Unread<'a> {
     fn column_of(&self, sign: &str) -> Option<usize> {
         for (column, texts) in self.columns.iter().zip(self.texts) {
             let text = texts.first_text();
-            if texts.are_numbered && sign_of(self.title(*column), text) == Some(sign) {
+            let own = sign_beside(self.title(*column), text, self.titles);
+            if texts.are_numbered && own == Some(sign) {
                 return Some(*column);
             }
         }

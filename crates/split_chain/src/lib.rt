@@ -3,13 +3,19 @@
 #![tactic(auto)]
 
 mod beside;
+mod blank_names;
 mod chain;
 mod coarse;
+mod deployments;
+mod divisor;
 mod halves;
 mod joined;
 mod laws;
 mod minutes;
 mod missing;
+mod other_clocks;
+mod other_times;
+mod parts_beside;
 mod passed;
 mod placed;
 mod predeployment;

@@ -7,6 +7,7 @@ use crate::beside::refuse_beside;
 use crate::halves::refuse_halves;
 use crate::joined::{SECONDS, Unread, join_words, joined_titles, own_title, refuse_parts};
 use crate::minutes::refuse_minutes;
+use crate::other_clocks::refuse_offsets;
 use crate::summers::refuse_summers;
 use crate::systems::{CODE_WORDS, ZONE_WORDS, refuse_systems};
 use crate::units::refuse_units;
@@ -19,7 +20,7 @@ use split_refusal::{Kind, Refusal, sign_of};
 use split_titles::dictionary::{
     CLOCK_WORDS, HOURS as HOUR_WORDS, OFFSET_WORDS, OTHER_TIMES, TIMES as TIME_WORDS,
 };
-use split_titles::{comes_to, has_word, is_of_places, not_read, trimmed};
+use split_titles::{comes_to, has_word, is_of_hours, is_of_places, not_read, trimmed};
 use std::alloc::{AllocError, Global};
 
 // The seconds of a day.
@@ -32,7 +33,7 @@ const MINUTE: u64 = 60;
 pub(crate) const UTC: &str = "UTC";
 
 // Titles of hours whose words are those of other things too.
-const HOURS: [&[u8]; 18] = [
+const HOURS: [&[u8]; 8] = [
     b"std",
     b"ora",
     b"\xC3\xB3ra",
@@ -41,16 +42,6 @@ const HOURS: [&[u8]; 18] = [
     b"hrs",
     b"uhr",
     b"hh",
-    b"time-(h)",
-    b"time-h",
-    b"time-(hours)",
-    b"zeit-(h)",
-    b"temps-(h)",
-    b"tiempo-(h)",
-    b"tempo-(h)",
-    b"tijd-(u)",
-    b"tid-(h)",
-    b"czas-(h)",
 ];
 
 // Words of titles that name UTC.
@@ -93,13 +84,17 @@ const ZONES: [&[u8]; 17] = [
     b"crs",
 ];
 
+// Titles that classes of Argos have, and classes of land and of beasts.
+const CLASSES: [&[u8]; 2] = [b"lc", b"class"];
+
 // What a column that is not read says.
 #[derive(Clone, Copy)]
 enum Passed {
     // That it was south or west, of degrees without a minus.
     Side,
-    // The Argos class.
+    // The Argos class, and one under a title that other classes have.
     Classes,
+    OddClasses,
     // The clock, of times that are days alone.
     Clock,
     // The day and the clock, of such times.
@@ -117,6 +112,8 @@ enum Passed {
     Zone,
     // Coordinates of records that have none elsewhere.
     Places,
+    // Which fixes count.
+    Marks,
 }
 
 // Whether a title is one of these.
@@ -137,6 +134,11 @@ fn may_be_offset(title: &[u8]) -> bool {
     is_bare || is_offset || is_of_clock(title)
 }
 
+// Whether a title is that of offsets from UTC or of zones of times.
+pub(crate) fn says_offset(title: &[u8]) -> bool {
+    is_one_of(title, &OFFSETS) || may_be_offset(title)
+}
+
 // Whether a column of this title and with such texts says of which zone times are, and that this is not UTC.
 fn has_offsets(title: &[u8], texts: &Texts) -> bool {
     let is_one = is_one_of(title, &OFFSETS) || texts.are_of_clocks && may_be_offset(title);
@@ -154,10 +156,10 @@ fn has_moments(title: &[u8], texts: &Texts) -> bool {
     texts.are_several && texts.have_clocks() && !has_word(title, &OTHER_TIMES)
 }
 
-// Whether a column of this title and with such texts has hours.
-fn has_hours(title: &[u8], texts: &Texts) -> bool {
-    let is_one = is_one_of(title, &HOURS) || has_word(title, &HOUR_WORDS);
-    texts.are_several && texts.are_numbered && is_one
+// Whether a column of this title and with such texts has hours: several, or one beside minutes that differ.
+fn has_hours(title: &[u8], texts: &Texts, has_minutes: bool) -> bool {
+    let is_one = is_one_of(title, &HOURS) || has_word(title, &HOUR_WORDS) || is_of_hours(title);
+    (texts.are_several || has_minutes) && texts.are_numbered && is_one
 }
 
 // Words of titles of lengths of time and of other numbers, beside words for the time.
@@ -244,10 +246,24 @@ struct Known {
     // Whether the forms of times have hours and no minutes, and minutes and no seconds.
     lacks_minutes: bool,
     lacks_seconds: bool,
+    // Whether a column that is not read has minutes that differ.
+    has_minutes: bool,
+    // Whether the column `use` says which fixes count.
+    has_use: bool,
+}
+
+// Whether one of the columns that are not read has minutes that differ.
+fn has_minutes(unread: Unread<'_>) -> bool {
+    for (column, texts) in unread.columns.iter().zip(unread.texts) {
+        if texts.are_there && is_part(unread.title(*column), texts, "%M") {
+            return true;
+        }
+    }
+    false
 }
 
 // What is known of an export, of which this is wished.
-fn known_of(export: &Export<'_>, wish: &Wish<'_>) -> Known {
+fn known_of(export: &Export<'_>, wish: &Wish<'_>, unread: Unread<'_>) -> Known {
     let columns = &export.columns;
     let forms = wish.forms;
     Known {
@@ -258,6 +274,8 @@ fn known_of(export: &Export<'_>, wish: &Wish<'_>) -> Known {
         is_in_utc: wish.clock_name == UTC,
         lacks_minutes: (forms.contains("%H") || forms.contains("%I")) && !forms.contains("%M"),
         lacks_seconds: lack_seconds(export, wish),
+        has_minutes: has_minutes(unread),
+        has_use: columns.marks.usage.is_some(),
     }
 }
 
@@ -267,13 +285,15 @@ fn what_is_passed(known: Known, title: &[u8], texts: &Texts) -> Option<Passed> {
         None
     } else if texts.are_against() {
         Some(Passed::Side)
-    } else if texts.are_of_argos() && !known.has_classes {
+    } else if !known.has_classes && texts.may_be_of_argos() && is_one_of(title, &CLASSES) {
+        Some(Passed::OddClasses)
+    } else if !known.has_classes && texts.are_of_argos() {
         Some(Passed::Classes)
     } else if known.are_days && texts.are_several && texts.are_clocks {
         Some(Passed::Clock)
     } else if known.are_days && has_moments(title, texts) {
         Some(Passed::Moment)
-    } else if known.are_days && has_hours(title, texts) {
+    } else if known.are_days && has_hours(title, texts, known.has_minutes) {
         Some(if texts.are_hours {
             Passed::Hour
         } else {
@@ -291,6 +311,8 @@ fn what_is_passed(known: Known, title: &[u8], texts: &Texts) -> Option<Passed> {
         Some(Passed::Zone)
     } else if texts.is_beside_none && is_of_places(title) {
         Some(Passed::Places)
+    } else if !known.has_use && texts.may_count() {
+        Some(Passed::Marks)
     } else {
         None
     }
@@ -316,6 +338,9 @@ fn words_of(passed: Passed) -> &'static str {
         Passed::Classes => {
             "may have Argos classes: name it, as by --argos COLUMN, or write its values otherwise where it has none"
         }
+        Passed::Marks => {
+            "may say which fixes count, and is not read: leave out the records that do not, and remove it, or write its values otherwise"
+        }
         Passed::Offset => {
             "says of which zone times are, and is not read: name the zone, as by --tz Europe/Ljubljana, or write the offset behind \
              each time, and remove it"
@@ -326,7 +351,8 @@ fn words_of(passed: Passed) -> &'static str {
         Passed::Places => {
             "has coordinates of records that have none in the columns that are read: make a table of each, or remove it"
         }
-        Passed::Clock
+        Passed::OddClasses
+        | Passed::Clock
         | Passed::Moment
         | Passed::Hour
         | Passed::OddHour
@@ -347,6 +373,12 @@ fn words_about(
     if let Some((what, sign)) = part_of(passed) {
         let joined = join_words(alloc, export, wish, unread, column, sign)?;
         return format!(in alloc; "has {what}: {joined}, or remove it");
+    }
+    if let Passed::OddClasses = passed {
+        let title = str::from_utf8(unread.title(column)).unwrap_or("");
+        return format!(in alloc;
+            "may have Argos classes: name it, as by --argos {title}, or rename or remove it"
+        );
     }
     if let Passed::Moment = passed {
         let title = own_title(alloc, unread, column)?;
@@ -431,7 +463,7 @@ fn refuse_unread(
 ) -> Result<(), Refusal>
     ensures { IfErr result IsOfNoFix }
 {
-    if let Some((column, what)) = first_passed(known_of(export, wish), unread) {
+    if let Some((column, what)) = first_passed(known_of(export, wish, unread), unread) {
         return Err(passed_refusal(alloc, export, wish, unread, column, what));
     }
     refuse_halves(alloc, wish, export, unread)?;
@@ -439,6 +471,7 @@ fn refuse_unread(
     refuse_units(alloc, export, unread)?;
     refuse_summers(alloc, wish, export, unread)?;
     refuse_minutes(alloc, export, unread)?;
+    refuse_offsets(alloc, wish, export, unread)?;
     refuse_parts(alloc, export, unread)
 }
 
@@ -481,5 +514,5 @@ pub(crate) fn refuse_passed_over(
         texts: &texts,
     };
     refuse_unread(alloc, wish, export, unread)?;
-    refuse_beside(alloc, unit, export)
+    refuse_beside(alloc, unit, wish, export)
 }

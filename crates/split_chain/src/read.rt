@@ -214,6 +214,34 @@ fn refused_no_time(alloc: Global, option: &str) -> Refusal
     }
 }
 
+// That the columns are those of a maker.
+fn refused_maker(alloc: Global, maker: &str) -> Refusal
+    ensures none { Names None result }
+    ensures no_fix { IsOfNoFix result }
+{
+    match format!(in alloc; "the columns are those of {maker}: read them by --from {maker}") {
+        Ok(text) => Refusal::new(alloc, Kind::Columns, None, text.as_bytes()),
+        Err(_) => Refusal::out_of_memory(alloc),
+    }
+}
+
+// The maker whose columns a table has.
+fn maker_in(alloc: Global, bytes: &[u8]) -> Option<&'static str> {
+    let titles = titles_of(alloc, bytes).ok()?;
+    maker_of(&shown(alloc, &titles).ok()?)
+}
+
+// The refusal of titles none of which is a usual one of coordinates: they may be those of a maker.
+fn refused_no_coordinates(alloc: Global, bytes: &[u8], path: &[u8], asked: &Asked<'_>) -> Refusal
+    ensures { Names None result }
+{
+    let is_named = asked.named.lon.is_some() || asked.named.easting.is_some();
+    match maker_in(alloc, bytes) {
+        Some(maker) if !is_named => refused_maker(alloc, maker),
+        _ => title_refusal(alloc, bytes, path, TitleFault::NoCoordinates),
+    }
+}
+
 // The refusal of an export.
 fn export_refusal(
     alloc: Global,
@@ -228,6 +256,9 @@ fn export_refusal(
     match fault {
         ExportFault::Text(fault) => refused_text(alloc, fault, path),
         ExportFault::Table(fault) => refused_table(alloc, fault, path),
+        ExportFault::Titles(TitleFault::NoCoordinates) => {
+            refused_no_coordinates(alloc, bytes, path, asked)
+        }
         ExportFault::Titles(fault) => title_refusal(alloc, bytes, path, fault),
         ExportFault::NotTaken(NotTaken::NoTime) => refused_no_time(alloc, wish.needs_time),
         ExportFault::Reading(fault) => reading_refusal(alloc, bytes, fault, asked, wish),
@@ -247,16 +278,6 @@ pub(crate) fn grouped_refusal(alloc: Global, bytes: &[u8], record: u32, column: 
     match (shown(alloc, &titles), shown(alloc, &fields)) {
         (Ok(titles), Ok(fields)) => refused_grouped(alloc, record, &titles, &fields, column),
         _ => Refusal::out_of_memory(alloc),
-    }
-}
-
-// That the columns are those of a maker.
-fn refused_maker(alloc: Global, maker: &str) -> Refusal
-    ensures { IsOfNoFix result }
-{
-    match format!(in alloc; "the columns are those of {maker}: read them by --from {maker}") {
-        Ok(text) => Refusal::new(alloc, Kind::Columns, None, text.as_bytes()),
-        Err(_) => Refusal::out_of_memory(alloc),
     }
 }
 

@@ -9,6 +9,7 @@ use crate::wish::Wish;
 use split_export::Export;
 use split_reading::{System, Zone, code_of, system_with, zone_of, zone_of_band};
 use split_refusal::Refusal;
+use split_titles::dictionary::{CLOCK_WORDS, OFFSET_WORDS, TIMES as TIME_WORDS};
 use split_titles::has_word;
 use std::alloc::{AllocError, Global};
 
@@ -128,6 +129,41 @@ fn named_in(title: &[u8], text: &[u8]) -> Option<Named> {
     None
 }
 
+// Words of titles of numbers of zones of UTM.
+const NUMBER_WORDS: [&str; 7] = [
+    "utm",
+    "utmz",
+    "utmzone",
+    "zonenumber",
+    "huso",
+    "fuso",
+    "fuseau",
+];
+
+// The number of one or two digits that a text is, with the decimal 0 or without it.
+fn small_number(text: &[u8]) -> Option<u8> {
+    match text.strip_suffix(b".0").unwrap_or(text) {
+        [ones @ b'1'..=b'9'] => Some(*ones - 48),
+        [tens @ b'0'..=b'6', ones @ b'0'..=b'9'] => {
+            Some((*tens - 48).saturating_mul(10).saturating_add(*ones - 48))
+        }
+        _ => None,
+    }
+}
+
+// The zone whose number alone the text of a column of this title has, on the side of the one that was named.
+fn zone_by_number(wish: &Wish<'_>, title: &[u8], text: &[u8]) -> Option<Named> {
+    let is_south = wish.zone?.is_south;
+    let is_of_times = has_word(title, &CLOCK_WORDS)
+        || has_word(title, &OFFSET_WORDS)
+        || has_word(title, &TIME_WORDS);
+    if is_of_times || !has_word(title, &NUMBER_WORDS) {
+        return None;
+    }
+    let number = small_number(text)?;
+    Some(Named::Zone(Zone { number, is_south }))
+}
+
 // Whether a wish is of another system than a zone that is named.
 fn is_of_other_zone(wish: &Wish<'_>, zone: Zone) -> bool {
     match (wish.zone, code_of(wish.system)) {
@@ -210,7 +246,8 @@ fn refusal_in(
 ) -> Result<(), Refusal>
     ensures { IfErr result IsOfNoFix }
 {
-    let Some(named) = named_in(title, text) else {
+    let named = named_in(title, text);
+    let Some(named) = named.or(zone_by_number(wish, title, text)) else {
         return Ok(());
     };
     match words_beside(alloc, wish, named) {

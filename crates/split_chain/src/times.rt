@@ -3,6 +3,9 @@
 ghost use Rattle.std.specs.Prelude.{IfErr};
 ghost use Rattle.split_refusal.specs.Refused.{IsOfNoFix};
 
+use crate::other_clocks::refuse_other_clocks;
+use crate::other_times::refuse_other_times;
+use crate::parts_beside::refuse_parts_beside;
 use crate::passed::{UTC, refusal_of, title_at};
 use crate::read::{day_refusal, untimed_refusal};
 use crate::wish::Wish;
@@ -10,7 +13,7 @@ use range_plane::OutOfMemory;
 use split_export::{
     Asked, Export, TimesLook, column_of_times, first_of_utc, look_at_times, rules_of,
 };
-use split_refusal::{Refusal, sign_of};
+use split_refusal::{Kind, Refusal, sign_of};
 use split_titles::{ClockDoubt, clock_doubt, not_read};
 use std::alloc::{AllocError, Global};
 
@@ -51,8 +54,8 @@ fn local_column(export: &Export<'_>) -> Option<usize> {
 // Why a column is refused that says another clock than that of UTC, and of which the time of this record ends with `Z`.
 fn utc_words(alloc: Global, record: u32) -> Result<String, AllocError> {
     format!(in alloc;
-        "says another clock than that of UTC, and the time of record {record} ends with Z, as those of UTC do: rename the column, or \
-         write the times of that clock without a Z, and name its zone, as by --tz Europe/Ljubljana"
+        "says another clock than that of UTC, and the time of record {record} ends as those of UTC do: rename the column, or \
+         write the times of that clock without a zone, and name its zone, as by --tz Europe/Ljubljana"
     )
 }
 
@@ -66,8 +69,8 @@ fn utc_refusal(alloc: Global, export: &Export<'_>, column: usize, record: u32) -
     }
 }
 
-// Whether the zone that was named is one of another clock than that of UTC.
-fn is_of_other_clock(asked: &Asked<'_>) -> bool {
+/// Whether the zone that was named is one of another clock than that of UTC.
+pub(crate) fn is_of_other_clock(asked: &Asked<'_>) -> bool {
     clock_doubt(UTC.as_bytes(), asked.named.zone) == Some(ClockDoubt::Utc)
 }
 
@@ -149,18 +152,38 @@ fn refuse_other_signs(alloc: Global, wish: &Wish<'_>, export: &Export<'_>) -> Re
     }
 }
 
+// The refusal of the time of a record that may have lost the zeros at the end of a number.
+fn zero_refusal(alloc: Global, record: u32) -> Refusal
+    ensures { IsOfNoFix result }
+{
+    Refusal::new(
+        alloc,
+        Kind::Time,
+        Some(record),
+        b"its time may have lost a zero at its end, as a spreadsheet takes 7.30 for the number 7.3: write all digits of minutes, months and \
+          days of the year",
+    )
+}
+
 // Looks at the times of an export; none where there are no rules for it.
 fn look_by(
     alloc: Global,
     export: &Export<'_>,
     asked: &Asked<'_>,
+    wish: &Wish<'_>,
 ) -> Result<Option<TimesLook>, Refusal>
     ensures { IfErr result IsOfNoFix }
 {
     let Ok(rules) = rules_of(&export.columns, export.titles.len(), false, asked) else {
         return Ok(None);
     };
-    match look_at_times(alloc, &export.text, &rules, &export.ledger.rows) {
+    match look_at_times(
+        alloc,
+        &export.text,
+        &rules,
+        wish.forms.as_bytes(),
+        &export.ledger.rows,
+    ) {
         Ok(look) => Ok(Some(look)),
         Err(_) => Err(Refusal::out_of_memory(alloc)),
     }
@@ -195,7 +218,7 @@ fn form_words(alloc: Global, wish: &Wish<'_>, used: &[bool]) -> Result<Vec<u8>, 
 ///
 /// # Errors
 ///
-/// All times are numbers that may be days with hours; times of UTC stand under a title of another clock; no column of the time has a usual title, and one of another title has times;
+/// All times are numbers that may be days with hours; times of UTC stand under a title of another clock; a title says another clock than that of the zone; a time may have lost a zero; a column that is not read has other times, or parts of other days; no column of the time has a usual title, and one of another title has times;
 /// or memory ran out.
 pub(crate) fn form_of_times(
     alloc: Global,
@@ -212,12 +235,18 @@ pub(crate) fn form_of_times(
     }
     refuse_other_signs(alloc, wish, export)?;
     refuse_times_of_utc(alloc, asked, export)?;
-    let Some(look) = look_by(alloc, export, asked)? else {
+    refuse_other_clocks(alloc, asked, wish, export)?;
+    let Some(look) = look_by(alloc, export, asked, wish)? else {
         return Ok(Vec::new(alloc));
     };
     if let Some((record, orders)) = look.day {
         return Err(day_refusal(alloc, bytes, record, orders, &export.columns, wish));
     }
+    if let Some(record) = look.without_zero {
+        return Err(zero_refusal(alloc, record));
+    }
+    refuse_other_times(alloc, asked, wish, export)?;
+    refuse_parts_beside(alloc, asked, wish, export)?;
     match form_words(alloc, wish, &look.forms) {
         Ok(words) => Ok(words),
         Err(_) => Err(Refusal::out_of_memory(alloc)),

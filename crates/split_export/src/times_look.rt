@@ -1,5 +1,7 @@
 // A second look at the times of a table: by which forms they are read, and whether numbers may be days with hours.
 
+use crate::zeros::Zeros;
+use split_clock::Clock;
 use split_reading::{Row, Rules, Told, time_text};
 use split_table::{Table, TableFault, TableText};
 use split_times::{DayOrders, Forms, number_moment, orders_in};
@@ -13,6 +15,8 @@ pub struct TimesLook {
     pub day: Option<(u32, DayOrders)>,
     /// Which of the forms is the first of a time, by their places; forms that are not here are not.
     pub forms: Vec<bool>,
+    /// The first record whose time may have lost a zero at the end of a number, as 7.3 of half past seven has.
+    pub without_zero: Option<u32>,
 }
 
 // What is seen of the records so far: the first whose time is a number, the orders in which all numbers are days with hours, and
@@ -22,6 +26,7 @@ struct Seen {
     first: Option<u32>,
     orders: DayOrders,
     forms: Vec<bool>,
+    zeros: Zeros,
 }
 
 // Notes that a form is used.
@@ -36,6 +41,11 @@ fn note_form(used: &mut Vec<bool>, form: usize) -> Result<(), TableFault> {
         *own = true;
     }
     Ok(())
+}
+
+// The form at a place of those between `|`.
+fn form_at(forms: &[u8], place: usize) -> &[u8] {
+    forms.split(|byte| *byte == b'|').nth(place).unwrap_or(b"")
 }
 
 // Whether the time of a record, if it is a number, may be a day with hours.
@@ -53,6 +63,7 @@ impl Seen {
             first: None,
             orders: DayOrders::all(),
             forms: Vec::new(alloc),
+            zeros: Zeros::none(),
         }
     }
 
@@ -69,14 +80,18 @@ impl Seen {
         &mut self,
         record: u32,
         text: &[u8],
-        forms: Option<Forms<'_>>,
+        rules: &Rules<'_, '_>,
+        forms: &[u8],
     ) -> Result<(), TableFault> {
-        let Some(forms) = forms else {
+        let Some(own) = rules.forms else {
             self.add_number(record, text);
             return Ok(());
         };
-        match forms.time(text) {
-            Ok(found) => note_form(&mut self.forms, found.form),
+        match own.time(text) {
+            Ok(found) => {
+                self.zeros = self.zeros.with(record, text, form_at(forms, found.form));
+                note_form(&mut self.forms, found.form)
+            }
             Err(_) => Ok(()),
         }
     }
@@ -104,6 +119,7 @@ fn look(
     alloc: Global,
     table: &mut Table<'_>,
     rules: &Rules<'_, '_>,
+    forms: &[u8],
     rows: &[Row],
 ) -> Result<Seen, TableFault> {
     let mut seen = Seen::new(alloc);
@@ -115,7 +131,7 @@ fn look(
         if let Told::Fix(_) = row.told {
             let record = u32::try_from(index).unwrap_or(u32::MAX).saturating_add(1);
             let text = current_text(&mut buffer, table, rules)?;
-            seen.add(record, text, rules.forms)?;
+            seen.add(record, text, rules, forms)?;
         }
     }
     Ok(seen)
@@ -126,7 +142,7 @@ fn has_more(rules: &Rules<'_, '_>, rows: &[Row]) -> bool {
     rules.forms.is_some() || !rules.is_second && rows.iter().any(may_be_day)
 }
 
-/// Looks at the times of a text whose records say this by the rules.
+/// Looks at the times of a text whose records say this by the rules, of which these are the forms as they are written.
 ///
 /// # Errors
 ///
@@ -135,6 +151,7 @@ pub fn look_at_times(
     alloc: Global,
     text: &TableText<'_>,
     rules: &Rules<'_, '_>,
+    forms: &[u8],
     rows: &[Row],
 ) -> Result<TimesLook, TableFault> {
     let mut table = text.table(alloc)?;
@@ -143,23 +160,38 @@ pub fn look_at_times(
         first,
         orders,
         forms,
-    } = look(alloc, &mut table, rules, rows)?;
+        zeros,
+    } = look(alloc, &mut table, rules, forms, rows)?;
     let day = match first {
         Some(record) if orders.is_any() => Some((record, orders)),
         _ => None,
     };
-    Ok(TimesLook { day, forms })
+    Ok(TimesLook {
+        day,
+        forms,
+        without_zero: zeros.first_lost(),
+    })
 }
 
-// Whether the time of a row, if it is one, has an offset.
-fn has_offset(row: &Row) -> bool {
+// The second of the time of a row, if it is one that has an offset.
+fn second_with_offset(row: &Row) -> Option<u64> {
     match row.told {
-        Told::Fix(fix) => !fix.is_local,
-        Told::LeftOut(_) => false,
+        Told::Fix(fix) if !fix.is_local => Some(fix.moment.second),
+        _ => None,
     }
 }
 
-/// The first record of a text, whose records say this by the rules, whose time ends with `Z`, as that of UTC does.
+// How times end whose clock is not ahead of UTC.
+const ENDS_OF_UTC: [&str; 4] = ["+00:00", "+0000", "+00", "-00:00"];
+
+// Whether a time of this second ends as those of UTC do: with `Z`, or with an offset of none where this clock is ahead of UTC or behind
+// it.
+fn is_of_utc(text: &[u8], second: u64, clock: Option<&Clock>) -> bool {
+    let has_no_offset = ENDS_OF_UTC.iter().any(|end| text.ends_with(end.as_bytes()));
+    text.ends_with(b"Z") || has_no_offset && clock.is_some_and(|clock| clock.offset_at(second) != 0)
+}
+
+/// The first record of a text, whose records say this by the rules, whose time ends as that of UTC does and not as that of the clock.
 ///
 /// # Errors
 ///
@@ -170,7 +202,7 @@ pub fn first_of_utc(
     rules: &Rules<'_, '_>,
     rows: &[Row],
 ) -> Result<Option<u32>, TableFault> {
-    if !rows.iter().any(has_offset) {
+    if rows.iter().all(|row| second_with_offset(row).is_none()) {
         return Ok(None);
     }
     let mut table = text.table(alloc)?;
@@ -180,7 +212,7 @@ pub fn first_of_utc(
             return Ok(None);
         }
         let time = current_text(&mut buffer, &table, rules)?;
-        if has_offset(row) && time.ends_with(b"Z") {
+        if second_with_offset(row).is_some_and(|second| is_of_utc(time, second, rules.clock)) {
             return Ok(Some(u32::try_from(index).unwrap_or(u32::MAX).saturating_add(1)));
         }
     }

@@ -1,5 +1,6 @@
 // What the texts of columns that are not read may say of where and when fixes are, and of which kind.
 
+use crate::unread_marks::Marks;
 use crate::unread_moments::Moments;
 use crate::unread_sides::Sides;
 use crate::unread_words::{is_clock_of_digits, is_grid_zone, is_numbered, is_of_clock, is_place};
@@ -48,6 +49,7 @@ pub struct Texts {
     pub is_beside_none: bool,
     // The sides that they say.
     sides: Sides,
+    marks: Marks,
     // Whether all are classes of Argos, and whether numbers and letters are among them.
     are_classes: bool,
     has_number: bool,
@@ -127,6 +129,7 @@ impl Texts {
             are_units: true,
             is_beside_none: false,
             sides: Sides::none(title, is_beside),
+            marks: Marks::none(title),
             are_classes: true,
             has_number: false,
             has_letter: false,
@@ -142,12 +145,14 @@ impl Texts {
     // Whether a text changes nothing: one that is missing, or another time the first one, where no record more can tell.
     fn is_passed(&self, text: &[u8], is_nowhere: bool) -> bool {
         let is_missing = text.is_empty() || text == b"NA".as_slice();
-        is_missing || self.is_first(text) && !is_nowhere && !self.sides.are_some()
+        let is_told = !self.sides.are_some() && !self.marks.are_open();
+        is_missing || self.is_first(text) && !is_nowhere && is_told
     }
 
-    // The same with one text more, of a record with these degrees, or without coordinates.
-    fn with(self, text: &[u8], degrees: Option<(i64, i64)>, is_nowhere: bool) -> Texts {
+    // The same with one text more, of a record that says this.
+    fn with(self, text: &[u8], row: &Row) -> Texts {
         let text = text.trim_ascii();
+        let is_nowhere = is_nowhere(row);
         if self.is_passed(text, is_nowhere) {
             return self;
         }
@@ -178,7 +183,12 @@ impl Texts {
             are_grid_zones: self.are_grid_zones && is_grid_zone(text),
             are_units: self.are_units && unit_named(text).is_some(),
             is_beside_none: self.is_beside_none || is_nowhere && is_place(text),
-            sides: self.sides.with(text, degrees),
+            sides: self.sides.with(text, degrees_of(row)),
+            marks: if is_fix(row) {
+                self.marks.with(text)
+            } else {
+                self.marks
+            },
             are_classes: self.are_classes && (is_number || is_letter),
             has_number: self.has_number || is_number,
             has_letter: self.has_letter || is_letter,
@@ -205,6 +215,11 @@ impl Texts {
         self.are_there && self.sides.are_against()
     }
 
+    /// Whether they may say which fixes count.
+    pub fn may_count(&self) -> bool {
+        self.marks.may_count()
+    }
+
     /// Whether all are days with clocks, and not all at midnight.
     pub fn have_clocks(&self) -> bool {
         self.are_there && self.moments.have_clocks()
@@ -213,6 +228,11 @@ impl Texts {
     /// Whether they are classes of Argos, numbers and letters.
     pub fn are_of_argos(&self) -> bool {
         self.are_classes && self.has_number && self.has_letter
+    }
+
+    /// Whether all are written as classes of Argos, which may be numbers or letters alone.
+    pub fn may_be_of_argos(&self) -> bool {
+        self.are_there && self.are_classes
     }
 
     // Whether a text more may change what is said of them, but that they differ.
@@ -227,6 +247,7 @@ impl Texts {
             || self.are_grid_zones
             || self.are_units
             || self.sides.are_some()
+            || self.marks.are_open()
             || self.are_classes
             || self.are_utc
             || !self.are_several
@@ -241,6 +262,11 @@ fn degrees_of(row: &Row) -> Option<(i64, i64)> {
     }
 }
 
+// Whether a row tells of a fix.
+fn is_fix(row: &Row) -> bool {
+    matches!(row.told, Told::Fix(_))
+}
+
 // Whether a row tells of no fix, since it has no coordinates.
 fn is_nowhere(row: &Row) -> bool {
     row.told == Told::LeftOut(Reason::Coordinates)
@@ -250,7 +276,7 @@ fn is_nowhere(row: &Row) -> bool {
 fn add(texts: &mut [Texts], columns: &[usize], fields: &ByteRecord, row: &Row) {
     for (own, column) in texts.iter_mut().zip(columns) {
         let text = fields.get(*column).unwrap_or(b"");
-        *own = own.with(text, degrees_of(row), is_nowhere(row));
+        *own = own.with(text, row);
     }
 }
 

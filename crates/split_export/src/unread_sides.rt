@@ -17,9 +17,15 @@ enum Side {
     O,
 }
 
-// Whether a column of this title may name places or groups, which are called by sides too.
-fn has_places(title: &[u8]) -> bool {
-    has_word(title, &PLACES)
+// Whether a column of this title may name places or groups, which are called by sides too, or what is no side of a fix.
+fn has_other_sides(title: &[u8]) -> bool {
+    has_word(title, &PLACES) || has_word(title, &NO_SIDES)
+}
+
+// Whether a title has words for both sides of an axis, as `North/South`.
+fn has_both(title: &[u8]) -> bool {
+    has_word(title, &NORTHS) && has_word(title, &SOUTHS)
+        || has_word(title, &EASTS) && has_word(title, &WESTS)
 }
 
 // The side that a letter is.
@@ -61,18 +67,17 @@ fn first_of(text: &[u8]) -> &[u8] {
     }
 }
 
-// Whether letters of a column of this title may be sides by it: where it says so, or stands beside coordinates, and not where it says
-// something else.
+// Whether letters of a column of this title may be sides by it: where it says so, or stands beside coordinates.
 fn may_have_letters(title: &[u8], is_beside: bool) -> bool {
-    let is_titled = has_word(title, &SIDE_TITLES) || has_word(title, &BEHIND);
+    let is_titled = has_word(title, &SIDE_TITLES) || has_word(title, &BEHIND) || has_both(title);
     let is_of_axis = has_word(title, &LONGITUDES) || has_word(title, &LATITUDES);
-    (is_beside || is_titled || is_of_axis) && !has_word(title, &NO_SIDES)
+    is_beside || is_titled || is_of_axis
 }
 
-// The side that a text says, where no places or groups are called so.
-fn side_of(text: &[u8], are_places: bool) -> Option<Side> {
+// The side that a text says, where nothing else is called so.
+fn side_of(text: &[u8], are_others: bool) -> Option<Side> {
     match text {
-        _ if are_places => None,
+        _ if are_others => None,
         [letter] => side_of_letter(*letter),
         _ => match first_of(text) {
             [letter] => side_of_letter(*letter),
@@ -101,8 +106,8 @@ fn may_be_against(side: Option<Side>, degrees: Option<(i64, i64)>) -> bool {
 /// Which sides all texts of a column say that are not missing.
 #[derive(Clone, Copy, PartialEq, Eq, Debug)]
 pub(crate) struct Sides {
-    // Whether the column may have names of places, which are called by sides too.
-    are_places: bool,
+    // Whether the column may have names of places, or other things which are called by sides too.
+    are_others: bool,
     // Whether a letter may be a side by the title and the place of the column, and whether one text is a word for a side.
     may_have_letters: bool,
     has_word: bool,
@@ -113,15 +118,13 @@ pub(crate) struct Sides {
     is_against: bool,
     may_be_against: bool,
     has_east: bool,
-    // Whether one is the east or the north.
-    has_other: bool,
 }
 
 impl Sides {
     /// Those of no text, of a column of this title, which stands beside one of coordinates or not.
     pub(crate) fn none(title: &[u8], is_beside: bool) -> Sides {
         Sides {
-            are_places: has_places(title),
+            are_others: has_other_sides(title),
             may_have_letters: may_have_letters(title, is_beside),
             has_word: false,
             are_of_latitude: true,
@@ -129,7 +132,6 @@ impl Sides {
             is_against: false,
             may_be_against: false,
             has_east: false,
-            has_other: false,
         }
     }
 
@@ -138,11 +140,11 @@ impl Sides {
         if !self.are_some() {
             return self;
         }
-        let side = side_of(text, self.are_places);
+        let side = side_of(text, self.are_others);
         let is_of_latitude = matches!(side, Some(Side::North | Side::South));
         let is_of_longitude = matches!(side, Some(Side::East | Side::West | Side::O));
         Sides {
-            are_places: self.are_places,
+            are_others: self.are_others,
             may_have_letters: self.may_have_letters,
             has_word: self.has_word || text.len() > 1,
             are_of_latitude: self.are_of_latitude && is_of_latitude,
@@ -150,7 +152,6 @@ impl Sides {
             is_against: self.is_against || is_against(side, degrees),
             may_be_against: self.may_be_against || may_be_against(side, degrees),
             has_east: self.has_east || side == Some(Side::East),
-            has_other: self.has_other || matches!(side, Some(Side::East | Side::North)),
         }
     }
 
@@ -159,9 +160,9 @@ impl Sides {
         self.are_of_latitude || self.are_of_longitude
     }
 
-    // Whether they are sides, and no letters that stand for something else.
+    // Whether they are sides, and no letters that stand for something else, as `S` and `N` do for yes and no.
     fn are_sides(&self) -> bool {
-        self.are_some() && (self.may_have_letters || self.has_word || self.has_other)
+        self.are_some() && (self.may_have_letters || self.has_word || self.has_east)
     }
 
     /// Whether they say that latitudes are south or longitudes west, which have no minus.

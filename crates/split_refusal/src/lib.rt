@@ -23,7 +23,7 @@ pub use days::refused_day;
 pub use grid::{refused_no_place, refused_off_grid};
 pub use kind::Kind;
 pub use names::refused_names;
-pub use parts::{form_of_columns, sign_of};
+pub use parts::{form_of_columns, sign_beside, sign_of};
 pub use refusal::Refusal;
 pub use tables::{refused_table, refused_text};
 pub use titles::refused_titles;

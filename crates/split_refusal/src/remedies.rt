@@ -33,16 +33,22 @@ const DAYS: [&str; 17] = [
 ];
 
 // Forms of clocks behind a day.
-const CLOCKS: [&str; 9] = [
+const CLOCKS: [&str; 15] = [
     "",
     " %H:%M:%S",
     " %H:%M",
     " %I:%M:%S %p",
     " %I:%M %p",
     ", %H:%M:%S",
+    ", %H:%M",
     ", %I:%M:%S %p",
     " %H%M%S",
     " %H%M",
+    " %H.%M.%S",
+    " %H.%M",
+    " %Hh%M",
+    "_%H:%M:%S",
+    "_%H:%M",
 ];
 
 // Whether a byte may stand in a word for what is missing, and needs no quotes there.
@@ -93,11 +99,86 @@ fn without_side(cell: &[u8]) -> &[u8] {
     }
 }
 
-// Whether a field is a number of degrees behind which their side or their sign stands.
-fn has_side(cell: &[u8]) -> bool {
+// A text without the letter of a side at its start.
+fn without_side_before(cell: &[u8]) -> &[u8] {
+    match cell {
+        [
+            b'N' | b'S' | b'E' | b'W' | b'O' | b'n' | b's' | b'e' | b'w' | b'o',
+            rest @ ..,
+        ] => rest,
+        _ => cell,
+    }
+}
+
+// The number of a field beside which its side stands, or behind which that or the sign of degrees does.
+fn number_beside_side(cell: &[u8]) -> Option<&[u8]> {
     let start = without_side(cell);
     let number = without_blanks(without_side(without_blanks(start)));
-    start.len() < cell.len() && is_number(number)
+    if start.len() < cell.len() && is_number(number) {
+        return Some(number);
+    }
+    let rest = without_side_before(cell);
+    let number = without_blanks(without_side(without_blanks(rest)));
+    if rest.len() < cell.len() && is_number(number) {
+        return Some(number);
+    }
+    None
+}
+
+// The most digits that degrees have before their decimals.
+const DIGITS_OF_DEGREES: usize = 3;
+
+// Whether a number has more digits than degrees before its decimals.
+fn is_of_metres(number: &[u8]) -> bool {
+    let is_of_whole = |byte: &u8| *byte != b'.' && *byte != b',';
+    let whole = number.iter().take_while(|byte| is_of_whole(byte));
+    DIGITS_OF_DEGREES < whole.filter(|byte| byte.is_ascii_digit()).count()
+}
+
+// How a number is to be written beside which its side stands.
+fn words_of_side(number: &[u8]) -> &'static str {
+    if is_of_metres(number) {
+        ": write numbers alone, without the letters of their sides"
+    } else {
+        ": write degrees as numbers alone, with a minus before those in the south or the west"
+    }
+}
+
+// The most digits of whole minutes and seconds.
+const DIGITS_OF_MINUTES: usize = 2;
+
+// Whether a byte stands behind degrees, minutes or seconds: of `°`, `º`, `'`, `"`, `′`, `″` and `:`.
+fn is_sign_of_parts(byte: u8) -> bool {
+    b"'\":\xC2\xB0\xBA\xE2\x80\xB2\xB3".contains(&byte)
+}
+
+// Whether a byte parts degrees from minutes.
+fn parts_degrees(byte: u8) -> bool {
+    byte == b' ' || is_sign_of_parts(byte)
+}
+
+// How many digits stand before the point of a number, if it is one with decimals or without.
+fn digits_before_point(number: &[u8]) -> usize {
+    number
+        .iter()
+        .position(|byte| *byte == b'.')
+        .unwrap_or(number.len())
+}
+
+// Whether a field is degrees with minutes behind them, or seconds too, beside which their side may stand.
+fn has_minutes(cell: &[u8]) -> bool {
+    let own = without_blanks(without_side_before(without_blanks(without_side(cell))));
+    let own = own.strip_prefix(b"-").unwrap_or(own);
+    let mut numbers = own
+        .split(|byte| parts_degrees(*byte))
+        .filter(|number| !number.is_empty());
+    let (Some(degrees), Some(minutes)) = (numbers.next(), numbers.next()) else {
+        return false;
+    };
+    let is_of_degrees = is_number(degrees) && degrees.len() <= DIGITS_OF_DEGREES;
+    let is_of_minutes = is_number(minutes) && digits_before_point(minutes) <= DIGITS_OF_MINUTES;
+    let is_signed = own.iter().any(|byte| is_sign_of_parts(*byte)) || minutes.contains(&b'.');
+    is_of_degrees && is_of_minutes && is_signed && numbers.all(is_number)
 }
 
 // Whether a byte may stand in a number, in one form or another.
@@ -108,10 +189,13 @@ fn is_of_number(byte: u8) -> bool {
 /// Appends what is to be done about a field that is no number: how it is to be written, or by which option it is missing, where it
 /// may be a word for that.
 pub(crate) fn push_number_remedy(text: &mut Vec<u8>, cell: &[u8]) -> Result<(), AllocError> {
-    if has_side(cell) {
+    if let Some(number) = number_beside_side(cell) {
+        return push(text, words_of_side(number));
+    }
+    if has_minutes(cell) {
         return push(
             text,
-            ": write degrees as numbers alone, with a minus before those in the south or the west",
+            ": write degrees with decimals, as 14.5 for 14 degrees and 30 minutes",
         );
     }
     if let Some(words) = words_of_number(cell) {
@@ -200,13 +284,18 @@ fn zone_behind(cell: &[u8]) -> &[u8] {
     }
 }
 
-// Appends the forms of a text with a zone of time at its end, and that this is named. Answers whether there are such forms.
-fn push_zoned_forms(alloc: Global, text: &mut Vec<u8>, cell: &[u8]) -> Result<bool, OutOfMemory> {
+// Appends the forms of a text with a zone of time at its end, the first behind these words, and that this is named. Answers whether
+// there are such forms.
+fn push_zoned_forms(
+    alloc: Global,
+    text: &mut Vec<u8>,
+    cell: &[u8],
+    words: &str,
+) -> Result<bool, OutOfMemory> {
     let zone = zone_behind(cell);
     if zone.is_empty() {
         return Ok(false);
     }
-    let words = ": name its form, as by --time-format '";
     if push_all_forms(alloc, text, cell, zone, words)? == 0 {
         return Ok(false);
     }
@@ -283,6 +372,21 @@ pub(crate) fn form_of_digits(cell: &[u8]) -> Option<&'static str> {
         .copied()
 }
 
+// Whether a field is a time of ISO but for a blank before its offset.
+fn has_blank_before_offset(alloc: Global, cell: &[u8]) -> Result<bool, OutOfMemory> {
+    let offset = cell.rsplit(|byte| *byte == b' ').next().unwrap_or(b"");
+    let place = cell.len().saturating_sub(offset.len().saturating_add(1));
+    let Some((start, _)) = cell.split_at_checked(place) else {
+        return Ok(false);
+    };
+    if !offset.starts_with(b"+") && !offset.starts_with(b"-") {
+        return Ok(false);
+    }
+    let mut joined = Vec::from_slice(alloc, start)?;
+    joined.extend_from_slice(offset)?;
+    Ok(has_iso_form(&joined))
+}
+
 /// Appends what is to be done about a field that is no time of ISO: by which option it is read, where it may be one of another
 /// form.
 pub(crate) fn push_form(alloc: Global, text: &mut Vec<u8>, cell: &[u8]) -> Result<(), OutOfMemory> {
@@ -290,8 +394,17 @@ pub(crate) fn push_form(alloc: Global, text: &mut Vec<u8>, cell: &[u8]) -> Resul
         push(text, ": write its decimals behind a point")?;
         return Ok(());
     }
+    if has_blank_before_offset(alloc, cell)? {
+        push(
+            text,
+            ": write its offset right behind the clock, without a blank",
+        )?;
+        return Ok(());
+    }
     let words = ": name its form, as by --time-format '";
-    if push_all_forms(alloc, text, cell, b"", words)? > 0 || push_zoned_forms(alloc, text, cell)? {
+    if push_all_forms(alloc, text, cell, b"", words)? > 0
+        || push_zoned_forms(alloc, text, cell, words)?
+    {
         return Ok(());
     }
     if let Some((clock, is_afternoon)) = odd_half(cell) {
@@ -352,21 +465,22 @@ fn has_turned(alloc: Global, cell: &[u8], forms: &str) -> Result<bool, OutOfMemo
     Ok(false)
 }
 
-// Appends the forms of a field in which day and month stand as in that which was named, the first behind these words.
+// Appends the forms of a field in which day and month stand as in that which was named, the first behind these words. Answers how
+// many there are.
 fn push_straight_forms(
     alloc: Global,
     text: &mut Vec<u8>,
     cell: &[u8],
     forms: &str,
     words: &str,
-) -> Result<(), OutOfMemory> {
+) -> Result<usize, OutOfMemory> {
     let mut count = 0;
     for day in DAYS {
         if !are_turned(day, forms) {
             count = push_forms(alloc, text, cell, (day, b""), count, words)?;
         }
     }
-    Ok(())
+    Ok(count)
 }
 
 /// Appends which other form than those that were named a field has, or that its day and its month may stand the other way round, as
@@ -377,13 +491,17 @@ pub(crate) fn push_other_form(
     cell: &[u8],
     forms: &str,
 ) -> Result<(), OutOfMemory> {
-    if has_turned(alloc, cell, forms)? {
+    let is_turned = has_turned(alloc, cell, forms)?;
+    let words = ": name its form too, behind a |, as '";
+    let count = push_straight_forms(alloc, text, cell, forms, words)?;
+    if is_turned {
+        push(text, if count == 0 { ": " } else { "; or, " })?;
         push(
             text,
-            ": if day and month stand the other way round in all, name that form alone",
+            "if day and month stand the other way round in all, name that form alone",
         )?;
-        return Ok(());
+    } else if count == 0 {
+        push_zoned_forms(alloc, text, cell, words)?;
     }
-    let words = ": name its form too, behind a |, as '";
-    push_straight_forms(alloc, text, cell, forms, words)
+    Ok(())
 }

@@ -43,10 +43,10 @@ fn number_of(record: u64) -> Option<u32>
 
 // What is said of a quote that stands where none may, and of one without an end.
 const STRAY_QUOTE: &str =
-    "a quote stands inside a field, or something behind it: quotes stand around a whole field, and are doubled inside it";
+    "a quote stands inside a field, or something behind it: quotes stand around a whole field, and are doubled inside it; and fields stand between commas, semicolons or tabs";
 
 const OPEN_QUOTE: &str =
-    "a quote has no end: quotes stand around a whole field, and are doubled inside it";
+    "a quote has no end: quotes stand around a whole field, and are doubled inside it; and fields stand between commas, semicolons or tabs";
 
 // A path, and words about its line of titles.
 fn about_titles(alloc: Global, path: &[u8], words: &str) -> Result<Sentence, OutOfMemory> {

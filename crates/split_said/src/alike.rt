@@ -162,6 +162,27 @@ fn looks_of(alloc: Global, name: &[u8]) -> Result<Vec<u8>, OutOfMemory> {
     likeness(alloc, looks.as_bytes())
 }
 
+// Whether a character is a sign between words, such as a blank, a point or a dash.
+fn is_sign(character: char) -> bool {
+    matches!(
+        character,
+        ' ' | '\u{A0}' | '_' | '-' | '.' | '/' | '\u{2010}'..='\u{2015}' | '\u{2212}'
+    )
+}
+
+// What a name has in common with those that differ in the signs between words.
+fn words_of(alloc: Global, name: &[u8]) -> Result<Vec<u8>, OutOfMemory> {
+    let letters = letters_of(alloc, name)?;
+    let Ok(text) = str::from_utf8(&letters) else {
+        return Ok(Vec::from_slice(alloc, name)?);
+    };
+    let mut words = String::new(alloc);
+    for character in text.chars() {
+        words.push(if is_sign(character) { ' ' } else { character })?;
+    }
+    likeness(alloc, words.as_bytes())
+}
+
 // That two names are alike, and what they differ in.
 fn alike_text(
     alloc: Global,
@@ -200,6 +221,7 @@ struct Known<'a> {
     by_letters: IndexMap<Vec<u8>, &'a [u8]>,
     by_both: IndexMap<Vec<u8>, &'a [u8]>,
     by_looks: IndexMap<Vec<u8>, &'a [u8]>,
+    by_words: IndexMap<Vec<u8>, &'a [u8]>,
     by_number: IndexMap<Vec<u8>, &'a [u8]>,
 }
 
@@ -219,7 +241,7 @@ fn tell_first(
 
 // Says which names before this one may be meant as one with it: the first from which it differs in blanks or capitals, and the
 // first from which it differs in the form of letters, if that is another one; or else the first from which it differs in both,
-// or in letters of other scripts; and the first that is the same number, with other zeros.
+// or in letters of other scripts, or in the signs between words; and the first that is the same number, with other zeros.
 fn tell_name<'a>(
     alloc: Global,
     said: &mut Said,
@@ -230,6 +252,7 @@ fn tell_name<'a>(
     let same = first_of(&mut known.by_letters, letters_of(alloc, name)?, name)?;
     let both = first_of(&mut known.by_both, likeness_of_letters(alloc, name)?, name)?;
     let looks = first_of(&mut known.by_looks, looks_of(alloc, name)?, name)?;
+    let words = first_of(&mut known.by_words, words_of(alloc, name)?, name)?;
     let number = Vec::from_slice(alloc, number_of(name))?;
     let equal = first_of(&mut known.by_number, number, name)?;
     tell_first(alloc, said, equal, name, "zeros")?;
@@ -245,6 +268,9 @@ fn tell_name<'a>(
         let what = "letters of other scripts that look the same";
         tell_first(alloc, said, looks, name, what)?;
     }
+    if both.is_none() && looks.is_none() {
+        tell_first(alloc, said, words, name, "the signs between words")?;
+    }
     Ok(())
 }
 
@@ -259,6 +285,7 @@ pub(crate) fn tell_alike(
         by_letters: IndexMap::new(alloc),
         by_both: IndexMap::new(alloc),
         by_looks: IndexMap::new(alloc),
+        by_words: IndexMap::new(alloc),
         by_number: IndexMap::new(alloc),
     };
     for name in names.iter() {

@@ -8,14 +8,34 @@ use range_plane::OutOfMemory;
 use split_reading::{Row, Told};
 use std::alloc::{AllocError, Global};
 
-// By which form and which clock times are read.
-fn form_text(alloc: Global, form: &[u8], clock: &[u8]) -> Result<Vec<u8>, AllocError> {
+// By which form and which clock times are read, of which some have no offset, or none do.
+fn form_text(
+    alloc: Global,
+    form: &[u8],
+    clock: &[u8],
+    are_local: bool,
+) -> Result<Vec<u8>, AllocError> {
     let mut text = Vec::new(alloc);
     push(&mut text, "times are read as ")?;
     text.extend_from_slice(form)?;
-    push(&mut text, ", in ")?;
+    let joint = if are_local {
+        ", in "
+    } else {
+        ", by their own offsets from UTC; days and hours are those of "
+    };
+    push(&mut text, joint)?;
     text.extend_from_slice(clock)?;
     Ok(text)
+}
+
+// Whether a record tells of a fix.
+fn is_fix(row: &Row) -> bool {
+    matches!(row.told, Told::Fix(_))
+}
+
+// Whether some times of fixes are read by the clock: they have no offset. So where there is no fix.
+fn are_local(rows: &[Row]) -> bool {
+    rows.iter().any(|row| is_odd(row, Odd::Local)) || !rows.iter().any(is_fix)
 }
 
 // What is odd about the time of a fix.
@@ -102,7 +122,8 @@ pub(crate) fn tell_clock(
 ) -> Result<(), OutOfMemory> {
     let times = sheet.times;
     if !sheet.columns.time.is_empty() && !times.form.is_empty() {
-        said.say(alloc, &form_text(alloc, times.form, times.clock_name)?)?;
+        let text = form_text(alloc, times.form, times.clock_name, are_local(rows))?;
+        said.say(alloc, &text)?;
     }
     if rows.iter().any(has_offset) {
         tell_odd(alloc, said, sheet, rows, Odd::Local)?;

@@ -60,6 +60,39 @@ fn push_degrees(
     push(text, if degrees < 0.0 { sides.0 } else { sides.1 })
 }
 
+// How many trillionths a degree has.
+const TRILLION: f64 = 1_000_000_000_000.0;
+
+// Appends a longitude and a latitude.
+fn push_both(
+    alloc: Global,
+    text: &mut Vec<u8>,
+    longitude: f64,
+    latitude: f64,
+) -> Result<(), AllocError> {
+    push_degrees(alloc, text, longitude, (" W ", " E "))?;
+    push_degrees(alloc, text, latitude, (" S", " N"))
+}
+
+/// Appends a longitude and a latitude, in trillionths of a degree, with one decimal each: `14.2 E 46.3 N`.
+///
+/// # Errors
+///
+/// Memory ran out.
+pub fn push_degrees_of(
+    alloc: Global,
+    text: &mut Vec<u8>,
+    degrees: (i64, i64),
+) -> Result<(), AllocError> {
+    let longitude = nearest_i64_to_f64(degrees.0) / TRILLION;
+    push_both(
+        alloc,
+        text,
+        longitude,
+        nearest_i64_to_f64(degrees.1) / TRILLION,
+    )
+}
+
 // Appends near which longitude and latitude the mean of the fixes that are used lies in a zone, if that is a place on the
 // earth.
 pub(crate) fn push_place(
@@ -74,6 +107,5 @@ pub(crate) fn push_place(
         return Ok(());
     };
     push(text, " near ")?;
-    push_degrees(alloc, text, longitude, (" W ", " E "))?;
-    push_degrees(alloc, text, latitude, (" S", " N"))
+    push_both(alloc, text, longitude, latitude)
 }

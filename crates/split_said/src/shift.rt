@@ -1,6 +1,7 @@
 // The shift of a local grid.
 
 use crate::figures::{push_metres, push_signed};
+use crate::magnitudes::ask_magnitudes;
 use crate::said::Said;
 use crate::stop::{Stop, refused};
 use crate::words::push;
@@ -63,7 +64,7 @@ fn tell_shift(alloc: Global, said: &mut Said, shift: (i64, i64)) -> Result<(), O
     said.say(alloc, &text)
 }
 
-// By how many metres coordinates are shifted, so that those of fixes that are used are on the grid.
+// By how many metres coordinates are shifted, so that those of fixes that are used are on the grid. Asks about such as are hardly metres.
 pub(crate) fn find_shift(
     alloc: Global,
     said: &mut Said,
@@ -80,5 +81,6 @@ pub(crate) fn find_shift(
         side_shift(alloc, "northings", unit, south, north)?,
     );
     tell_shift(alloc, said, shift)?;
+    ask_magnitudes(alloc, said, &extent, unit)?;
     Ok(shift)
 }

@@ -4,6 +4,7 @@ ghost use Rattle.std.specs.Prelude.{IfErr};
 ghost use Rattle.split_refusal.specs.Refused.{IsOfNoFix};
 
 use crate::apart::ask_apart;
+use crate::copies::ask_copies;
 use crate::extent::tell_columns;
 use crate::far::ask_far_fixes;
 use crate::figures::push_two_digits;
@@ -254,6 +255,7 @@ fn tell_last(
     ask_far_fixes(alloc, said, herd, sheet)?;
     ask_apart(alloc, said, herd, sheet.unit)?;
     ask_years(alloc, said, herd, sheet)?;
+    ask_copies(alloc, said, herd)?;
     if !grid.is_projected {
         check_metres(alloc, said, herd, sheet.unit)?;
     }
@@ -264,7 +266,7 @@ fn tell_last(
 }
 
 /// Says what there is to say of the tracks of a table that are written: animals without a file, tracks that the program refuses,
-/// fixes that lie far from the others of their animal, or years before them, coordinates that can hardly be metres, the columns that were taken and
+/// fixes that lie far from the others of their animal, or years before them, animals of the same fixes, coordinates that can hardly be metres, the columns that were taken and
 /// those that were not, and names that are others in files. `animals` are the names in the table; the other parameters are those
 /// of [`tell_tracks`].
 ///

@@ -1,6 +1,7 @@
 // What stands between brackets at the end of titles.
 
-use crate::words::{behind, word_from};
+use crate::signs::{sign_at, sign_before};
+use crate::words::{behind, start_of, word_from};
 
 // Where two points last stand side by side in a text.
 fn last_points(text: &[u8]) -> Option<usize> {
@@ -13,19 +14,27 @@ fn last_points(text: &[u8]) -> Option<usize> {
     last
 }
 
+// What stands behind the first bracket of a text that opens.
+fn behind_bracket(text: &[u8]) -> Option<&[u8]> {
+    for place in 0..text.len() {
+        let rest = behind(text, place);
+        match sign_at(rest) {
+            Some((b'(' | b'[' | b'{', length)) => return Some(behind(rest, length)),
+            _ => {}
+        }
+    }
+    None
+}
+
 // What stands between brackets at the end of a title, or between the points that R writes for them; none where nothing does.
 fn bracketed(title: &[u8]) -> Option<&[u8]> {
-    let (inside, open) = match title {
-        [inside @ .., b')' | b']' | b'}'] => (
-            inside,
-            inside
-                .iter()
-                .position(|byte| matches!(*byte, b'(' | b'[' | b'{')),
-        ),
-        [inside @ .., b'.'] => (inside, last_points(inside)),
-        _ => return None,
-    };
-    Some(behind(inside, open?.saturating_add(1)))
+    let (sign, length) = sign_before(title)?;
+    let inside = start_of(title, title.len().saturating_sub(length));
+    match sign {
+        b')' | b']' | b'}' => behind_bracket(inside),
+        b'.' => Some(behind(inside, last_points(inside)?.saturating_add(1))),
+        _ => None,
+    }
 }
 
 // Whether a byte stands beside a word between brackets: a blank, or the point that R writes for one.

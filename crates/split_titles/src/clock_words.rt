@@ -2,7 +2,7 @@
 
 use crate::brackets::lone_word;
 use crate::dictionary::{
-    DATES, DAYS, DAYS_OF_YEARS, HALVES, HOURS, MINUTES, MONTHS, NO_CLOCKS, OFFICIAL,
+    DATES, DAYS, DAYS_OF_YEARS, HALVES, HOURS, MINUTES, MONTHS, NO_CLOCKS, ODD_PARTS, OFFICIAL,
     PARTS_OF_THE_WORLD, PLACE_CLOCKS, SEASON_CLOCKS, SECONDS, SUMMER_CLOCKS, SUMMERS, TIMES,
     WINTERS, WORDS_OF_UTC, YEARS, ZONE_LETTERS,
 };
@@ -59,6 +59,7 @@ fn is_of_time(word: &[u8]) -> bool {
         || is_one_of(word, &MONTHS)
         || is_one_of(word, &DAYS)
         || is_one_of(word, &DAYS_OF_YEARS)
+        || is_one_of(word, &ODD_PARTS)
         || is_one_of(word, &HOURS)
         || is_one_of(word, &MINUTES)
         || is_one_of(word, &SECONDS)
@@ -115,7 +116,7 @@ fn says_clock(word: &[u8], rest: &[u8], has_time: bool, may_be_place: bool) -> b
 // The word by which a title of times says a clock that is no UTC.
 pub(crate) fn clock_word(title: &[u8]) -> Option<&[u8]> {
     let has_time = has_time(title);
-    let has_day = has_word(title, &DATES) || has_word(title, &DAYS);
+    let has_day = has_word(title, &DATES) || has_word(title, &DAYS) || has_word(title, &ODD_PARTS);
     let may_be_place = has_time || has_day || is_one_word(title);
     for place in 0..title.len() {
         let word = word_from(title, place);

@@ -2,6 +2,7 @@
 
 use crate::clock_words::{clock_word, is_official};
 use crate::dictionary::{ACCENTED_CLOCKS, CLOCK_ABBREVIATIONS, NAMELESS, WORDS_OF_UTC};
+use crate::signs::{sign_at, sign_before};
 use crate::words::{begins_at, behind, is_one_of, start_of, word_from};
 
 // What names of zones begin with, before a `/`.
@@ -100,12 +101,13 @@ fn digits_length(text: &[u8]) -> usize {
 
 // How long a sign and the digits behind it are, as in `+2` or `-05:30`; 0 where there are none, or only zeros.
 fn offset_length(text: &[u8]) -> usize {
-    let digits = match text.split_first() {
-        Some((b'+' | b'-', rest)) => start_of(rest, digits_length(rest)),
-        _ => return 0,
+    let Some((b'+' | b'-', length)) = sign_at(text) else {
+        return 0;
     };
+    let rest = behind(text, length);
+    let digits = start_of(rest, digits_length(rest));
     if digits.iter().any(|byte| (b'1'..=b'9').contains(byte)) {
-        digits.len().saturating_add(1)
+        digits.len().saturating_add(length)
     } else {
         0
     }
@@ -158,33 +160,34 @@ fn may_begin(before: u8, sign: u8, digits: &[u8]) -> bool {
 
 // Whether an offset may end before the start of a text, or before an `h` there.
 fn may_end(text: &[u8]) -> bool {
-    match text.strip_prefix(b"h").unwrap_or(text).first() {
-        None | Some(b' ' | b'\t' | b')' | b']' | b'}' | b',' | b';') => true,
+    match sign_at(text.strip_prefix(b"h").unwrap_or(text)) {
+        None | Some((b' ' | b'\t' | b')' | b']' | b'}' | b',' | b';', _)) => true,
         _ => false,
     }
 }
 
 // Whether a letter between brackets is that of UTC.
 fn is_zulu(before: u8, letter: u8, behind: &[u8]) -> bool {
-    match (before, letter, behind.first()) {
-        (b'(' | b'[' | b'{', b'Z' | b'z', Some(b')' | b']' | b'}')) => true,
+    match (before, letter, sign_at(behind)) {
+        (b'(' | b'[' | b'{', b'Z' | b'z', Some((b')' | b']' | b'}', _))) => true,
         _ => false,
     }
 }
 
 // What an offset without `UTC` at the start of a text says, which stands behind a byte of its title.
 fn offset_at(before: u8, text: &[u8]) -> ClockSaid<'_> {
-    let Some((sign, rest)) = text.split_first() else {
+    let Some((sign, length)) = sign_at(text) else {
         return ClockSaid::Nothing;
     };
-    if is_zulu(before, *sign, rest) {
-        return ClockSaid::Utc(start_of(text, 1));
+    let rest = behind(text, length);
+    if is_zulu(before, sign, rest) {
+        return ClockSaid::Utc(start_of(text, length));
     }
     let digits = start_of(rest, digits_length(rest));
     let is_one = is_offset(digits)
-        && may_begin(before, *sign, digits)
+        && may_begin(before, sign, digits)
         && may_end(behind(rest, digits.len()));
-    let word = start_of(text, digits.len().saturating_add(1));
+    let word = start_of(text, digits.len().saturating_add(length));
     match offset_length(text) {
         _ if !is_one => ClockSaid::Nothing,
         0 => ClockSaid::Utc(word),
@@ -216,6 +219,16 @@ fn name_length(text: &[u8], has_digits: bool) -> usize {
     text.len()
 }
 
+// The length of the name of a zone of no place, with an offset whose sign is none of ASCII, as in `Etc/GMT−3`; the name is so long
+// without it.
+fn length_with_offset(text: &[u8], length: usize) -> usize {
+    let rest = behind(text, length);
+    match (sign_at(rest), offset_length(rest)) {
+        (Some((_, 1)) | None, _) => length,
+        (_, offset) => length.saturating_add(offset),
+    }
+}
+
 // The name of a zone with its area, at the start of a text.
 fn region_at(text: &[u8]) -> Option<&[u8]> {
     let area = start_of(text, word_length(text));
@@ -225,7 +238,8 @@ fn region_at(text: &[u8]) -> Option<&[u8]> {
     match behind(text, area.len()) {
         [b'/', first, ..] if is_area && first.is_ascii_alphabetic() => {
             let has_digits = area.eq_ignore_ascii_case(ETC.as_bytes());
-            Some(start_of(text, name_length(text, has_digits)))
+            let length = name_length(text, has_digits);
+            Some(start_of(text, length_with_offset(text, length)))
         }
         _ => None,
     }
@@ -265,15 +279,21 @@ fn is_gap(byte: u8) -> bool {
 
 // A text without the blanks, and the signs in their place, at its start.
 fn without_gaps(text: &[u8]) -> &[u8] {
-    let length = text.iter().position(|byte| !is_gap(*byte));
-    behind(text, length.unwrap_or(text.len()))
+    let mut rest = text;
+    for _ in 0..text.len() {
+        rest = match sign_at(rest) {
+            Some((sign, length)) if is_gap(sign) => behind(rest, length),
+            _ => return rest,
+        };
+    }
+    rest
 }
 
 // Whether what a text begins with is a sign, or a word for one: whether it is ahead of UTC, and what follows.
 fn behind_sign(text: &[u8]) -> Option<(bool, &[u8])> {
-    match text {
-        [b'+', rest @ ..] => Some((true, rest)),
-        [b'-', rest @ ..] => Some((false, rest)),
+    match sign_at(text) {
+        Some((b'+', length)) => Some((true, behind(text, length))),
+        Some((b'-', length)) => Some((false, behind(text, length))),
         _ if start_of(text, 4).eq_ignore_ascii_case(b"plus") => Some((true, behind(text, 4))),
         _ if start_of(text, 5).eq_ignore_ascii_case(b"minus") => Some((false, behind(text, 5))),
         _ => None,
@@ -282,7 +302,10 @@ fn behind_sign(text: &[u8]) -> Option<(bool, &[u8])> {
 
 // Whether an offset may end before the start of a text that R or a person wrote, who have signs in the place of brackets.
 fn may_end_before(text: &[u8]) -> bool {
-    may_end(text) || text.first().is_some_and(|byte| is_gap(*byte))
+    match sign_at(text) {
+        Some((sign, _)) if is_gap(sign) => true,
+        _ => may_end(text),
+    }
 }
 
 // How long an offset with gaps or a word for its sign is behind `UTC`, as in ` + 2` and `_plus_2`, or one whose sign is lost, as
@@ -346,9 +369,9 @@ fn said_at(title: &[u8], place: usize) -> ClockSaid<'_> {
     } else {
         ClockSaid::Nothing
     };
-    match place.checked_sub(1).and_then(|before| title.get(before)) {
-        Some(before) if word == ClockSaid::Nothing && may_stand_behind(*before) => {
-            offset_at(*before, text)
+    match sign_before(start_of(title, place)) {
+        Some((before, _)) if word == ClockSaid::Nothing && may_stand_behind(before) => {
+            offset_at(before, text)
         }
         _ => word,
     }
@@ -359,12 +382,27 @@ fn tells_zone(word: &[u8]) -> bool {
     is_zone(word) || whole_hours(word).is_some()
 }
 
+// The length of the word that says a clock; 0 where none does.
+fn length_of(said: ClockSaid<'_>) -> usize {
+    match said {
+        ClockSaid::Nothing => 0,
+        ClockSaid::Utc(word) | ClockSaid::Local(word) => word.len(),
+    }
+}
+
 // What a title says of the clock of its times by names and offsets: by the first word that says another one than that of UTC, of several by the
 // first that tells its zone; or else by the first that says that of UTC.
 fn name_said(title: &[u8]) -> ClockSaid<'_> {
     let mut said = ClockSaid::Nothing;
+    let mut end: usize = 0;
     for place in 0..title.len() {
-        match (said, said_at(title, place)) {
+        let own = if place < end {
+            ClockSaid::Nothing
+        } else {
+            said_at(title, place)
+        };
+        end = end.max(place.saturating_add(length_of(own)));
+        match (said, own) {
             (_, ClockSaid::Local(word)) if tells_zone(word) => return ClockSaid::Local(word),
             (ClockSaid::Local(_), _) | (_, ClockSaid::Nothing) => {}
             (_, ClockSaid::Local(word)) => said = ClockSaid::Local(word),
@@ -397,7 +435,7 @@ fn without_etc(zone: &[u8]) -> &[u8] {
 }
 
 // The digits of an offset behind the name of UTC, or of one alone, and whether it is ahead of UTC, if its sign is there.
-fn offset_of(word: &[u8]) -> Option<(Option<bool>, &[u8])> {
+pub(crate) fn offset_of(word: &[u8]) -> Option<(Option<bool>, &[u8])> {
     let rest = match behind_utc(word) {
         Some(rest) => without_gaps(rest),
         None => word,
@@ -456,7 +494,7 @@ pub(crate) fn is_of_utc(zone: &[u8]) -> bool {
 // Whether a word of a title is the name of a zone, with its area as it is written in such names.
 pub(crate) fn is_zone(word: &[u8]) -> bool {
     let is_of_area = AREAS.iter().any(|own| word.starts_with(own.as_bytes()));
-    is_of_area && word.contains(&b'/')
+    is_of_area && word.contains(&b'/') && word.is_ascii()
 }
 
 // The hours of an offset, without a 0 before them and minutes of `00` behind them; or all of its digits, where it has other

@@ -444,13 +444,10 @@ pub const HEMISPHERES: [&str; 25] = [
 ];
 
 /// What else stands behind a side of degrees.
-pub const BEHIND_SIDES: [&str; 32] = [
-    "half",
-    "positive",
-    "pos",
-    "of",
-    "from",
-    "is",
+pub const BEHIND_SIDES: [&str; 6] = ["half", "positive", "pos", "of", "from", "is"];
+
+/// Geographic, as coordinates are.
+pub const GEOGRAPHIC: [&str; 32] = [
     "geographic",
     "geographical",
     "geografische",
@@ -477,6 +474,20 @@ pub const BEHIND_SIDES: [&str; 32] = [
     "geograafiline",
     "ģeogrāfiskais",
     "geografinė",
+    "geodetic",
+    "geodätische",
+    "geodetische",
+    "geodésica",
+    "geodetska",
+    "geografico",
+];
+
+/// Words that join others.
+pub const JOINING: [&str; 48] = [
+    "of", "at", "the", "in", "on", "by", "for", "and", "de", "la", "du", "d", "et", "y", "e", "a",
+    "i", "u", "und", "der", "die", "des", "ed", "di", "della", "del", "og", "och", "en", "ja",
+    "és", "az", "и", "в", "по", "та", "і", "ir", "un", "ve", "και", "με", "v", "w", "na", "je",
+    "do", "da",
 ];
 
 /// Coordinates.
@@ -1436,7 +1447,7 @@ pub const SMALL_FORENOONS: [&str; 1] = ["fm"];
 pub const SMALL_AFTERNOONS: [&str; 1] = ["em"];
 
 /// Titles of letters for sides, beside words for axes and sides.
-pub const SIDE_TITLES: [&str; 16] = [
+pub const SIDE_TITLES: [&str; 51] = [
     "ns",
     "ew",
     "we",
@@ -1453,10 +1464,45 @@ pub const SIDE_TITLES: [&str; 16] = [
     "dir",
     "direction",
     "ref",
+    "nsindicator",
+    "ewindicator",
+    "nsind",
+    "ewind",
+    "nsi",
+    "ewi",
+    "latdir",
+    "londir",
+    "longdir",
+    "lngdir",
+    "latref",
+    "lonref",
+    "longref",
+    "lngref",
+    "latitudedir",
+    "longitudedir",
+    "latitudedirection",
+    "longitudedirection",
+    "latituderef",
+    "longituderef",
+    "gpslatituderef",
+    "gpslongituderef",
+    "latns",
+    "lonew",
+    "longew",
+    "lathem",
+    "lonhem",
+    "lathemi",
+    "lonhemi",
+    "lathemisphere",
+    "lonhemisphere",
+    "latside",
+    "lonside",
+    "northsouth",
+    "eastwest",
 ];
 
 /// What such a title says beside what is no side of the Earth.
-pub const NO_SIDES: [&str; 19] = [
+pub const NO_SIDES: [&str; 43] = [
     "wind",
     "weather",
     "flight",
@@ -1476,10 +1522,34 @@ pub const NO_SIDES: [&str; 19] = [
     "treatment",
     "season",
     "observer",
+    "winds",
+    "winddir",
+    "winddirection",
+    "windrichtung",
+    "viento",
+    "vento",
+    "vítr",
+    "vietor",
+    "veter",
+    "vjetar",
+    "wiatr",
+    "ветер",
+    "tuuli",
+    "szél",
+    "vind",
+    "vent",
+    "wave",
+    "swell",
+    "travel",
+    "heading",
+    "bearing",
+    "orientation",
+    "facing",
+    "migration",
 ];
 
 /// Places that are not those of fixes: of animals, devices and nests, and of records before and behind.
-pub const OTHER_PLACES: [&str; 66] = [
+pub const OTHER_PLACES: [&str; 102] = [
     "deploy",
     "deployed",
     "deployment",
@@ -1546,6 +1616,42 @@ pub const OTHER_PLACES: [&str; 66] = [
     "study",
     "park",
     "error",
+    "pred",
+    "predicted",
+    "lag",
+    "lagged",
+    "lead",
+    "era",
+    "water",
+    "partner",
+    "neighbour",
+    "neighbor",
+    "neighbours",
+    "neighbors",
+    "nearest",
+    "closest",
+    "mate",
+    "dam",
+    "sire",
+    "mother",
+    "grid",
+    "cell",
+    "pixel",
+    "raster",
+    "weather",
+    "tile",
+    "village",
+    "town",
+    "house",
+    "settlement",
+    "river",
+    "lake",
+    "waterhole",
+    "prey",
+    "predator",
+    "simulated",
+    "random",
+    "available",
 ];
 
 /// Titles of halves of the day, in one word.
@@ -1706,7 +1812,7 @@ pub const SEASON_CLOCKS: [&str; 16] = [
 ];
 
 /// Minutes.
-pub const MINUTES: [&str; 23] = [
+pub const MINUTES: [&str; 22] = [
     "min",
     "mins",
     "minute",
@@ -1722,7 +1828,6 @@ pub const MINUTES: [&str; 23] = [
     "minuter",
     "minuut",
     "minuuttia",
-    "perc",
     "dakika",
     "минута",
     "минуты",
@@ -1782,7 +1887,7 @@ pub const MINUTES_OF_AXES: [&str; 17] = [
 ];
 
 /// Hours.
-pub const HOURS: [&str; 39] = [
+pub const HOURS: [&str; 38] = [
     "hour",
     "hours",
     "hora",
@@ -1803,7 +1908,6 @@ pub const HOURS: [&str; 39] = [
     "godziny",
     "godz",
     "ura",
-    "uri",
     "sati",
     "saat",
     "klo",
@@ -1936,7 +2040,7 @@ pub const DATES: [&str; 25] = [
 ];
 
 /// Years.
-pub const YEARS: [&str; 27] = [
+pub const YEARS: [&str; 24] = [
     "year",
     "yr",
     "yyyy",
@@ -1948,12 +2052,9 @@ pub const YEARS: [&str; 27] = [
     "rok",
     "leto",
     "godina",
-    "év",
     "vuosi",
-    "år",
     "jaar",
     "anul",
-    "any",
     "год",
     "рік",
     "година",
@@ -1967,7 +2068,7 @@ pub const YEARS: [&str; 27] = [
 ];
 
 /// Months.
-pub const MONTHS: [&str; 27] = [
+pub const MONTHS: [&str; 26] = [
     "month",
     "mon",
     "mm",
@@ -1994,28 +2095,22 @@ pub const MONTHS: [&str; 27] = [
     "μήνας",
     "月",
     "月份",
-    "ay",
 ];
 
 /// Days.
-pub const DAYS: [&str; 20] = [
+pub const DAYS: [&str; 15] = [
     "day",
     "dd",
-    "tag",
     "jour",
     "dia",
     "giorno",
     "dag",
     "päivä",
     "dzień",
-    "den",
-    "dan",
     "день",
     "ден",
-    "nap",
     "päev",
     "diena",
-    "gün",
     "ημέρα",
     "ziua",
     "日",
@@ -2035,6 +2130,11 @@ pub const DAYS_OF_YEARS: [&str; 12] = [
     "tag-des-jahres",
     "dayinyear",
     "jourjulien",
+];
+
+/// Parts of times by words that are other ones too, as those for a tag and a den: in a title of a time they are known, and columns have such parts only where another column has a part in the same language.
+pub const ODD_PARTS: [&str; 10] = [
+    "tag", "den", "dan", "nap", "gün", "any", "år", "év", "ay", "perc",
 ];
 
 /// Times that are not those of fixes: of animals and devices, of the sun, and of records.
@@ -2847,4 +2947,146 @@ pub const NO_CLOCKS: [&str; 166] = [
     "sample",
     "sampling",
     "jj",
+];
+
+/// Words of titles of columns that may say which fixes are chosen, where their texts are yes and no.
+pub const CHOOSING: [&str; 19] = [
+    "keep",
+    "kept",
+    "drop",
+    "dropped",
+    "delete",
+    "deleted",
+    "remove",
+    "removed",
+    "exclude",
+    "excluded",
+    "exclusion",
+    "discard",
+    "discarded",
+    "reject",
+    "rejected",
+    "bad",
+    "badfix",
+    "suspicious",
+    "suspect",
+];
+
+/// Titles, of one word, of such columns.
+pub const CHOOSING_ALONE: [&str; 10] = [
+    "case",
+    "used",
+    "available",
+    "presence",
+    "response",
+    "random",
+    "flag",
+    "flagged",
+    "qc",
+    "dead",
+];
+
+/// Words of titles of columns that may say which fixes are no good, by such words as `invalid`.
+pub const JUDGING: [&str; 45] = [
+    "status",
+    "quality",
+    "qc",
+    "qa",
+    "qaqc",
+    "flag",
+    "flags",
+    "flagged",
+    "check",
+    "checked",
+    "control",
+    "validation",
+    "validated",
+    "review",
+    "reviewed",
+    "filter",
+    "filtered",
+    "evaluation",
+    "assessment",
+    "judgement",
+    "fix",
+    "fixtype",
+    "fixstatus",
+    "keep",
+    "exclude",
+    "estado",
+    "estatus",
+    "qualite",
+    "qualität",
+    "qualitaet",
+    "kvalita",
+    "kvalitet",
+    "kwaliteit",
+    "jakosc",
+    "calidad",
+    "qualita",
+    "qualidade",
+    "prüfung",
+    "pruefung",
+    "comment",
+    "comments",
+    "remark",
+    "remarks",
+    "note",
+    "notes",
+];
+
+/// Texts, but for capitals, by which such columns say that a fix is no good.
+pub const BAD_FIXES: [&str; 52] = [
+    "outlier",
+    "outliers",
+    "invalid",
+    "not valid",
+    "bad",
+    "fail",
+    "failed",
+    "failure",
+    "error",
+    "erroneous",
+    "suspicious",
+    "suspect",
+    "doubtful",
+    "rejected",
+    "reject",
+    "exclude",
+    "excluded",
+    "delete",
+    "deleted",
+    "remove",
+    "removed",
+    "drop",
+    "dropped",
+    "discard",
+    "discarded",
+    "no fix",
+    "nofix",
+    "no position",
+    "unresolved",
+    "wrong",
+    "false fix",
+    "dead",
+    "ungültig",
+    "ungueltig",
+    "fehler",
+    "ausreißer",
+    "ausreisser",
+    "invalide",
+    "erreur",
+    "aberrant",
+    "invalido",
+    "error gps",
+    "ongeldig",
+    "fout",
+    "ugyldig",
+    "fejl",
+    "ogiltig",
+    "fel",
+    "neplatný",
+    "chyba",
+    "nieprawidłowy",
+    "błąd",
 ];

@@ -15,8 +15,8 @@ use crate::plain::comes_to;
 use crate::said::refuse_said;
 use crate::usual::{
     ALGORITHM_OUTLIER, ANIMALS, ARGOS_CLASSES, CLOCK_PARTS, COLUMN_LIMIT, DOPS, FIX_TYPES, Family,
-    IMPORT_OUTLIER, MANUAL_OUTLIER, MANUAL_VALID, SECOND, SENSOR, SENSOR_NUMBER, TIMES, USE,
-    UTM_ZONE, VISIBLE,
+    IMPORT_OUTLIER, MANUAL_OUTLIER, MANUAL_VALID, MOMENTS, SECOND, SENSOR, SENSOR_NUMBER, TIMES,
+    USE, UTM_ZONE, VISIBLE,
 };
 use range_plane::OutOfMemory;
 use std::alloc::Allocator;
@@ -86,8 +86,13 @@ fn animal_columns<'a, A: Allocator>(
     }
 }
 
+// Whether there are columns of the hour and of the minute, beside which one of seconds has those of a minute.
+fn has_clock_parts(titles: &[&[u8]]) -> bool {
+    CLOCK_PARTS.iter().all(|part| next_place(titles, 0, part.as_bytes(), false).is_some())
+}
+
 // The column of the time by its usual title: that of the coordinates' own family, where it is more than a day and no
-// column counts seconds, or the only one.
+// column counts seconds, or the only one, beside which seconds may be those of a minute.
 fn usual_time<'a>(titles: &[&[u8]], family: Option<Family>) -> Result<Option<usize>, TitleFault<'a>>
     ensures { IfOk result (IsWithin (length titles.now)) }
 {
@@ -96,6 +101,12 @@ fn usual_time<'a>(titles: &[&[u8]], family: Option<Family>) -> Result<Option<usi
         let has_seconds = next_place(titles, 0, SECOND.as_bytes(), false).is_some();
         if own.is_some() && !family.has_days() && !has_seconds {
             return Ok(own);
+        }
+    }
+    if has_clock_parts(titles) {
+        let moment = one_of(titles, &MOMENTS, Role::Time)?;
+        if moment.is_some() {
+            return Ok(moment);
         }
     }
     one_of(titles, &TIMES, Role::Time)

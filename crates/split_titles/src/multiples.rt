@@ -4,6 +4,7 @@ use crate::axes::is_axis;
 use crate::dictionary::{
     COORDINATE_LETTERS, COORDS, DEGREES, EASTS, METRES, MULTIPLES, NORTHS, NUMBERED_SYSTEMS,
 };
+use crate::signs::{sign_at, sign_before};
 use crate::words::{begins_at, behind, is_one_of, start_of, word_before, word_from};
 
 // The short name of metres.
@@ -110,7 +111,7 @@ fn is_multiplied(word: &[u8]) -> bool {
 
 // Whether an `x` behind this start of a title is a sign, before a number of so many digits, which stands right behind it or not.
 fn is_times(start: &[u8], digits: usize, is_joined: bool) -> bool {
-    let is_bracket = matches!(start.last(), Some(b'(' | b'[' | b'{'));
+    let is_bracket = matches!(sign_before(start), Some((b'(' | b'[' | b'{', _)));
     is_bracket || is_joined && digits >= 3 || is_multiplied(word_before(start, start.len()))
 }
 
@@ -140,8 +141,8 @@ fn times_length(before: &[u8], digits: usize) -> usize {
 
 // Whether a number stands alone between brackets.
 fn is_in_brackets(before: &[u8], rest: &[u8]) -> bool {
-    match (before.last(), rest.first()) {
-        (Some(b'(' | b'[' | b'{'), Some(b')' | b']' | b'}')) => true,
+    match (sign_before(before), sign_at(rest)) {
+        (Some((b'(' | b'[' | b'{', _)), Some((b')' | b']' | b'}', _))) => true,
         _ => false,
     }
 }

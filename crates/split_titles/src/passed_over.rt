@@ -7,8 +7,8 @@ use crate::named::{Named, Role};
 use crate::plain::comes_to;
 use crate::usual::{
     ALGORITHM_OUTLIER, ARGOS_CLASSES, DEGREES, DOPS, FAMILIES, FIX_TYPES, Family, IMPORT_OUTLIER,
-    MANUAL_OUTLIER, MANUAL_VALID, MARK_WORDS, NO_MARKS, ODD_CLASSES, SATELLITE_WORDS, SENSOR,
-    SENSOR_NUMBER, TIMES, USE, UTM_ZONE, VISIBLE,
+    LOCATION_CLASSES, MANUAL_OUTLIER, MANUAL_VALID, MARK_WORDS, NO_MARKS, ODD_CLASSES,
+    SATELLITE_WORDS, SENSOR, SENSOR_NUMBER, TIMES, USE, UTM_ZONE, VISIBLE,
 };
 use crate::words::has_word;
 use std::alloc::Allocator;
@@ -49,6 +49,20 @@ fn unread<A: Allocator>(titles: &[&[u8]], columns: &Columns<A>, usuals: &[&str])
     None
 }
 
+// The first column that may have classes of Argos by its title: beside such a column, or where an option asks for one, also by a
+// title that other classes have.
+fn odd_classes<A: Allocator>(
+    titles: &[&[u8]],
+    named: &Named<'_>,
+    columns: &Columns<A>,
+) -> Option<usize> {
+    if named.has_argos_class || columns.argos.is_some() {
+        unread(titles, columns, &ODD_CLASSES)
+    } else {
+        unread(titles, columns, &LOCATION_CLASSES)
+    }
+}
+
 // Refuses a column that may have classes of Argos, unless one was named, and that an option asks for one where none is.
 fn refuse_classes<'a, A: Allocator>(
     titles: &[&[u8]],
@@ -58,7 +72,7 @@ fn refuse_classes<'a, A: Allocator>(
     if named.argos.is_some() {
         return Ok(());
     }
-    let Some(at) = unread(titles, columns, &ODD_CLASSES) else {
+    let Some(at) = odd_classes(titles, named, columns) else {
         return require(
             named.has_argos_class,
             columns.argos,

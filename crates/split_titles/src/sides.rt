@@ -2,10 +2,11 @@
 
 use crate::axes::{is_axis, is_of_degrees as has_axis_of_degrees};
 use crate::dictionary::{
-    BEHIND_SIDES, COORDINATE_LETTERS, COORDS, DEGREES, EASTINGS, EASTS, HEMISPHERES,
+    BEHIND_SIDES, COORDINATE_LETTERS, COORDS, DEGREES, EASTINGS, EASTS, GEOGRAPHIC, HEMISPHERES,
     LONGITUDES_OF_O, METRES, NORTHINGS, NORTHS, OF_PLANES, SIGNED, SOUTHS, WESTINGS, WESTS,
 };
 use crate::named::Role;
+use crate::signs::sign_at;
 use crate::units::is_known;
 use crate::words::{behind, first_word, has_word, is_one_of, is_one_word, next_word, word_from};
 
@@ -30,8 +31,8 @@ fn is_written_out(word: &[u8], role: Role) -> bool {
 
 // Whether what is said ends before the start of a text: by the end of a title, or a sign.
 fn ends_before(text: &[u8]) -> bool {
-    match text.trim_ascii_start().first() {
-        None | Some(b'(' | b')' | b'[' | b']' | b'{' | b'}' | b',' | b';') => true,
+    match sign_at(text.trim_ascii_start()) {
+        None | Some((b'(' | b')' | b'[' | b']' | b'{' | b'}' | b',' | b';', _)) => true,
         _ => false,
     }
 }
@@ -46,6 +47,7 @@ fn may_stand_before(rest: &[u8]) -> bool {
         || is_one_of(next, &COORDS)
         || is_one_of(next, &HEMISPHERES)
         || is_one_of(next, &BEHIND_SIDES)
+        || is_one_of(next, &GEOGRAPHIC)
 }
 
 // Whether a word of the title of a plane is none of a system or of a place.

@@ -29,11 +29,12 @@ pub(crate) const UTM_ZONE: &str = "utm-zone";
 
 const LAT: &str = "lat";
 
-pub(crate) const ANIMALS: [&str; 11] = [
+pub(crate) const ANIMALS: [&str; 12] = [
     LOCAL_IDENTIFIER,
     ANIMAL,
     ID,
     "animal-id",
+    "animalid",
     "animals-id",
     "individual-id",
     "individual",
@@ -46,6 +47,17 @@ pub(crate) const ANIMALS: [&str; 11] = [
 pub(crate) const TIMES: [&str; 9] = [
     TIMESTAMP,
     SECOND,
+    TIME_OF_AMT,
+    DATE,
+    TIME,
+    "datetime",
+    "date-time",
+    "acquisition-time",
+    "tracked-at",
+];
+// Those of them that have moments, beside which a column of seconds may be one of a minute.
+pub(crate) const MOMENTS: [&str; 8] = [
+    TIMESTAMP,
     TIME_OF_AMT,
     DATE,
     TIME,
@@ -184,10 +196,17 @@ pub(crate) const ARGOS_CLASSES: [&str; 5] = [
     "location-quality",
     "location-class",
 ];
-// Titles that classes of Argos have too, and other classes.
+// Titles that classes of Argos have too, and other classes; of the first two, as those of land, their cells tell.
 pub(crate) const ODD_CLASSES: [&str; 6] = [
     "lc",
     "class",
+    "argos-loc-class",
+    "argos-location-class",
+    "loc-class",
+    "locationclass",
+];
+
+pub(crate) const LOCATION_CLASSES: [&str; 4] = [
     "argos-loc-class",
     "argos-location-class",
     "loc-class",

@@ -1,5 +1,7 @@
 // The words of titles.
 
+use crate::signs::is_wide_sign;
+
 // What a byte of a title is.
 #[derive(Clone, Copy, PartialEq, Eq)]
 enum Letter {
@@ -144,10 +146,24 @@ fn last_letter(text: &[u8]) -> Letter {
     }
 }
 
+// Whether the byte at a place of a title is one of three that write a wide sign.
+fn is_of_wide_sign(title: &[u8], place: usize) -> bool {
+    for back in 0..3 {
+        match place.checked_sub(back) {
+            Some(start) if is_wide_sign(behind(title, start)) => return true,
+            _ => {}
+        }
+    }
+    false
+}
+
 // What the byte at a place of a title is.
 fn letter_at(title: &[u8], place: usize) -> Letter {
     let start = title.get(..=place).unwrap_or(b"");
-    last_letter(start)
+    match start.last() {
+        Some(byte) if !byte.is_ascii() && is_of_wide_sign(title, place) => Letter::Sign,
+        _ => last_letter(start),
+    }
 }
 
 // Whether a word goes on from a letter to the next one: not from a small letter to a great one, nor between letters and digits.

@@ -88,6 +88,73 @@ fn has_half(form: &[u8]) -> bool {
         .any(|part| is_half_of_day(behind_sign(part)))
 }
 
+// Where a sign first stands in a form.
+fn place_of(form: &str, sign: &str) -> Option<usize> {
+    form.as_bytes()
+        .windows(2)
+        .position(|bytes| bytes == sign.as_bytes())
+}
+
+// Whether a form has the minute before the hour.
+fn has_minute_first(form: &str) -> bool {
+    let hour = place_of(form, "%H").or(place_of(form, "%I"));
+    match (place_of(form, "%M"), hour) {
+        (Some(minute), Some(hour)) => minute < hour,
+        _ => false,
+    }
+}
+
+// Whether a form has the day, as a number, before the month; none where it does not have both.
+fn is_day_first(form: &str) -> Option<bool> {
+    match (place_of(form, "%d"), place_of(form, "%m")) {
+        (Some(day), Some(month)) => Some(day < month),
+        _ => None,
+    }
+}
+
+// Whether two bytes of forms are the same, or the signs of day and month.
+fn are_same_or_turned(one: u8, other: u8) -> bool {
+    one == other || matches!((one, other), (b'd', b'm') | (b'm', b'd'))
+}
+
+// Whether two forms have all but the order of day and month in common.
+fn are_turned(form: &str, other: &str) -> bool {
+    let are_alike = form.len() == other.len()
+        && form
+            .as_bytes()
+            .iter()
+            .zip(other.as_bytes())
+            .all(|(one, own)| are_same_or_turned(*one, *own));
+    are_alike && is_day_first(form).is_some() && is_day_first(form) != is_day_first(other)
+}
+
+// Why a form is refused among others: minutes stand where a month may be meant, or it is the other way round.
+fn order_words(alloc: Global, forms: &str, form: &str) -> Result<Option<String>, AllocError> {
+    if has_minute_first(form) {
+        return Ok(Some(format!(in alloc;
+            "time-format is '{form}', which has the minute before the hour: %m is the month, and %M the minute"
+        )?));
+    }
+    match forms.split('|').find(|other| are_turned(form, other)) {
+        Some(other) => Ok(Some(format!(in alloc;
+            "time-format has '{form}' and '{other}', by which many texts are two days: name one of them"
+        )?)),
+        None => Ok(None),
+    }
+}
+
+// Refuses forms whose signs stand in an order that can hardly be meant.
+fn refuse_orders(alloc: Global, forms: &str) -> Result<(), WordFault> {
+    for form in forms.split('|') {
+        match order_words(alloc, forms, form) {
+            Ok(None) => {}
+            Ok(Some(words)) => return Err(refused(alloc, Kind::Option, words.as_str())),
+            Err(_) => return Err(WordFault::OutOfMemory),
+        }
+    }
+    Ok(())
+}
+
 // Why a form is refused that is one of days: it says another zone than times are read in, or none is named, or a half of the day
 // stands for itself.
 fn zone_words(
@@ -139,6 +206,7 @@ pub(crate) fn forms_in<'a>(
     let Some(text) = value else {
         return Ok(None);
     };
+    refuse_orders(alloc, text)?;
     refuse_zones(alloc, text, zone_name)?;
     match Forms::new(text.as_bytes()) {
         Ok(forms) => Ok(Some(forms)),

@@ -149,7 +149,7 @@ fn numbers_that_may_all_be_days_are_found(rt: HostRuntime) -> Result<(), Fail> {
         ),
     ] {
         let text = TableText::new(bytes)?;
-        let look = look_at_times(rt.alloc(), &text, &RULES, &rows)?;
+        let look = look_at_times(rt.alloc(), &text, &RULES, b"", &rows)?;
         assert!(&rt; look.day == expected, "{bytes:?}");
     }
     Ok(())
@@ -162,28 +162,74 @@ fn seconds_of_ones_own_are_no_days(rt: HostRuntime) -> Result<(), Fail> {
         ..RULES
     };
     let text = TableText::new(b"a,second,x,y\nf,2024050112,1,2\n")?;
-    let look = look_at_times(rt.alloc(), &text, &seconds, &[fix(2_024_050_112)])?;
+    let look = look_at_times(rt.alloc(), &text, &seconds, b"", &[fix(2_024_050_112)])?;
     assert!(&rt; look.day.is_none(), "seconds of one's own");
     Ok(())
 }
 
+// Forms of days.
+const FORMS: &[u8] = b"%d.%m.%Y|%Y/%m/%d|%Y-%m-%d";
+
 #[test]
 fn forms_that_are_used_are_found(rt: HostRuntime) -> Result<(), Fail> {
     let rules = Rules {
-        forms: Some(Forms::new(b"%d.%m.%Y|%Y/%m/%d|%Y-%m-%d")?),
+        forms: Some(Forms::new(FORMS)?),
         ..RULES
     };
     let text = TableText::new(b"a,t,x,y\nf,2024-05-01,1,2\nf,2.5.2024,1,2\n")?;
-    let look = look_at_times(rt.alloc(), &text, &rules, &[fix(1), fix(2)])?;
+    let look = look_at_times(rt.alloc(), &text, &rules, FORMS, &[fix(1), fix(2)])?;
     assert!(&rt;
         look.forms.as_slice() == [true, false, true].as_slice(),
         "the first and the last"
     );
-    let look = look_at_times(rt.alloc(), &text, &rules, &[NO_FIX, fix(2)])?;
+    let look = look_at_times(rt.alloc(), &text, &rules, FORMS, &[NO_FIX, fix(2)])?;
     assert!(&rt;
         look.forms.as_slice() == [true].as_slice(),
         "the first alone"
     );
+    Ok(())
+}
+
+#[test]
+fn times_that_may_have_lost_a_zero_are_found(rt: HostRuntime) -> Result<(), Fail> {
+    for (form, bytes, expected) in [
+        // Half past seven as a number, and three minutes past seven.
+        (
+            b"%Y-%m-%d %H.%M".as_slice(),
+            b"a,t,x,y\nf,2024-05-01 7.03,1,2\nf,2024-05-01 7.3,1,2\n".as_slice(),
+            Some(2),
+        ),
+        (
+            b"%Y-%m-%d %H.%M",
+            b"a,t,x,y\nf,2024-05-01 7.03,1,2\nf,2024-05-01 7.30,1,2\n",
+            None,
+        ),
+        // The hundredth day of a year, or the first.
+        (
+            b"%Y.%j",
+            b"a,t,x,y\nf,2024.1,1,2\nf,2024.101,1,2\n",
+            Some(1),
+        ),
+        // The third of January, or of October; but one of these has all digits.
+        (
+            b"%d.%m %Y",
+            b"a,t,x,y\nf,2.11 2024,1,2\nf,3.1 2024,1,2\n",
+            Some(2),
+        ),
+        (
+            b"%d.%m %Y",
+            b"a,t,x,y\nf,3.10 2024,1,2\nf,3.1 2024,1,2\n",
+            None,
+        ),
+    ] {
+        let rules = Rules {
+            forms: Some(Forms::new(form)?),
+            ..RULES
+        };
+        let text = TableText::new(bytes)?;
+        let look = look_at_times(rt.alloc(), &text, &rules, form, &[fix(1), fix(2)])?;
+        assert!(&rt; look.without_zero == expected, "{bytes:?}");
+    }
     Ok(())
 }
 

@@ -16,7 +16,7 @@ import pandas
 
 from ..arguments import says_ours
 from ..bar import progress_of
-from ..errors import ReportError, check_file, is_several, path_of, refuse, shown, truth_of
+from ..errors import HomeRangeError, ReportError, check_file, is_several, path_of, refuse, shown, truth_of
 from ..program import Program, checksum_of, find_program, program_of
 from ..read.fixes import Fixes, clock_of, is_of_fixes, reading_of
 from ..read.reading import ReadTable, has_calendar, read_again, read_table, tell, times_of
@@ -501,7 +501,7 @@ def read_report(
     crs: the reference system of the coordinates in metres, such as 'EPSG:32633'; if left out, that of the record. Ranges far from
         where it is used are refused, as those of tracks that were shifted are without their shift.
     shift: how many metres were added to eastings and northings, as the line shift of split.txt has it; they are taken off
-        in the answers.
+        in the answers. Without it and a record it is said, where that lies beside the report or its files.
     tz: the time zone of the times in the answers, where the seconds of the files are those since 1970 in UTC.
     program: as in home_range.
     record: split.txt of the files, from which it is known what was left out, the reference system and the shift. One of another
@@ -514,7 +514,25 @@ def read_report(
     check_grid(crs, zone, shift)
     report, paths = read_lines(check_file(path_of(path, "path")), rows_in), [check_file(path_of(file, "files")) for file in files]
     split = None if record is None else check_file(path_of(record, "record"))
-    return ranges_of(report, Path(path), paths, crs, zone, shift, split, program)
+    ranges = ranges_of(report, Path(path), paths, crs, zone, shift, split, program)
+    if split is None and not any(shift):
+        tell(shifts_said(report, paths, [Path(path), *paths]))
+    return ranges
+
+
+def shifts_said(report: Report, files: Sequence[Path], beside: Iterable[Path]) -> list[str]:
+    """What is said of ranges that are read without their record, where it lies beside the report or its files and has a shift."""
+    for path in dict.fromkeys(file.with_name("split.txt") for file in beside):
+        try:
+            own = read_record(path) if path.is_file() else None
+            if own is not None:
+                check_record(own, report, files)
+        except HomeRangeError:  # it is that of others
+            own = None
+        if own is not None and any(own.shift):
+            return [f"coordinates are shifted by {own.shift[0]} m east and {own.shift[1]} m north, as {path} has it, and lie so here: name it, as by "
+                    f"record={str(path)!r}"]
+    return []
 
 
 def check_grid(crs: Any, tz: str, shift: Any) -> None:

@@ -9,7 +9,7 @@ from typing import Any, Callable, Mapping, Sequence
 import pandas
 
 from ..errors import one_line
-from .cells import cells_of
+from .cells import cells_of, is_time
 from .letters import like_title
 from .text import Column, has_times, is_number, plain, titles_named
 
@@ -20,6 +20,7 @@ TYPES = ("gps-fix-type", "fix-type", "fixtype", "fix-status", "fixstatus", "type
 DAYS = {"days since 1970": (7305, 32874, "unix"), "days of Excel": (32874, 49310, "1899-12-30"),  # 1990 to 2059, to 2034, and 1993 to 2077
         "modified Julian days": (49310, 80000, "1858-11-17"), "Julian days": (2_400_000, 2_500_000, "julian")}
 PARTS = {13: ("milliseconds", "ms"), 16: ("microseconds", "us"), 19: ("nanoseconds", "ns")}  # since 1970, by their digits
+FAR = re.compile("[0-9]{5,}-.*")  # a day behind the year 9999
 SIGN_HELPS = {"%f": "%S has the decimals of seconds: leave .%f out", "%T": "%H:%M:%S stands for %T", "%F": "%Y-%m-%d stands for %F",
               "%R": "%H:%M stands for %R", "%e": "%d stands for %e", "%z": "a form has no offset: make moments of its texts, as by "
               "pandas.to_datetime(.., format=.., utc=True)", "%B": "make moments of its texts, as by pandas.to_datetime(.., format=..)"}
@@ -38,6 +39,9 @@ def digits_of_clocks(title: str, columns: Sequence[Column]) -> int:
 
 def of_time(found: Refusal, options: Mapping[str, Any], columns: Sequence[Column]) -> str:
     """A time that is joined of a day and a clock without its zeros, or of a day and hours with decimals."""
+    far = of_far(found, columns) if FAR.fullmatch(found[3]) else None
+    if far is not None:
+        return far
     titles, cells = titles_named(options.get("time")), found[3].split(" ")
     if len(titles) != len(cells) or len(titles) < 2 or found[2] != one_line(" ".join(titles)):
         return found[0]
@@ -47,8 +51,21 @@ def of_time(found: Refusal, options: Mapping[str, Any], columns: Sequence[Column
         return f"{found[1]}: {clocks_of(digits, last, columns)}"
     own = next((column.values for column in columns if column.title == last), None)
     if len(titles) == 2 and own is not None and re.fullmatch("[0-9]+[.][0-9]+", cells[1]):
-        return f"{found[1]}: {help_for_decimals(titles[0], last, own)}"
+        said = re.sub(": name its form too, .*$", "", found[1])  # hours with decimals look as clocks with a point
+        return f"{said}: {help_for_decimals(titles[0], last, own)}"
     return found[0]
+
+
+def of_far(found: Refusal, columns: Sequence[Column]) -> str | None:
+    """Moments far behind the year 9999, whose numbers may be of another part of a second; None of others."""
+    column = next((column for column in columns if one_line(column.title) == found[2] and is_time(column.values.dtype)), None)
+    most = 0 if column is None else int(column.values.dropna().astype("int64").max())
+    name, unit = PARTS.get(len(str(most)), (None, ""))
+    if column is None or name is None:
+        return None
+    own = f"frame[{column.title!r}]"
+    said = found[1].replace(f"'{found[3]}'", "far behind the year 9999")
+    return f"{said}: if its numbers are {name} since 1970, make moments of them, as by {own} = pandas.to_datetime({own}.astype('int64'), unit={unit!r}, utc=True)"
 
 
 def clocks_of(digits: int, title: str, columns: Sequence[Column]) -> str:

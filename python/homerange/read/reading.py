@@ -30,11 +30,11 @@ from .cells import cells_of
 from .changes import (
     PLACES, are_rows_of_table, checksum_of_rows, has_labels, judged_rows, left_since, own_titles, refuse_changed, refuse_unread,
     refuse_unread_rows, seen, with_named_levels)
-from .clocks import refuse_other_clocks
+from .clocks import refuse_other_clocks, refuse_summers
 from .fixes import Fixes, Reading, clock_of, is_known, is_of_classes, reading_of
 from .helps import with_help
 from .refusals import COLUMNS, check_cells, columns_read, refuse_text
-from .systems import are_degrees, check_sides, crs_named, options_of, refuse_beside_zone, scales_said
+from .systems import are_degrees, check_sides, crs_named, options_of, refuse_beside_zone, refuse_elsewhere, scales_said
 from .text import (
     NAME, Text, frame_given, has_times, in_own_words, plain, text_of_frame, with_clock_of, with_time_named, write_text, zones_in)
 from .tracks import NAMED, Whole, left_out, own_names, read_tracks, rows_of
@@ -47,7 +47,7 @@ DONE = (": left out", ": sorted by time")  # how lines end that say what was don
 READ, NOT_READ = "columns: ", "not read: "
 NO_TIME, OF_TIMES = "no column has a usual title for the time: ", ("since", "until", "max_speed", "every")
 TAKEN = (READ, "UTM coordinates are", "coordinates are those", "longitude and latitude are", "days and hours are",
-         "ranges are by group", NOT_READ, "times are read as ", "points of ")
+         "ranges are by group", NOT_READ, "times are read as ", "points of ", "by column ")
 SUBJECT = re.compile("column [0-9]+ '.*' is read as (eastings|northings|longitudes|latitudes|times)[ :]")  # of titles with unknown words
 
 
@@ -337,6 +337,7 @@ def read_text(text: Text, folder: Path, program: str, has_rows: bool) -> ReadTab
     check_cells(text, record)
     check_sides(text.crs, record.said, text.options)
     refuse_other_clocks(text, columns_read(text, record), folder, program)
+    refuse_summers(text, [*columns_read(text, record)], folder, program)
     narrow, rows = narrow_places(text.columns, record, COLUMNS), rows_of(folder / "tracks", whole) if has_rows else None
     if narrow and rows is None:
         split_table(NAME, "rows", ["--records", *words_of_options(text.options)], program, str(folder))
@@ -385,6 +386,7 @@ def fixes_of(whole: Whole, record: Record, folder: Path, tz: str | None, crs: An
     own, scale, clock = own_names(record), UNITS[record.unit].per_metre, tz or "UTC"
     names = [own.get(name, name) for name in whole.names]
     east, north = (numbers / scale - added for numbers, added in zip((whole.easting, whole.northing), record.shift))
+    refuse_elsewhere(crs, record.said, east, north)
     is_dated = len(whole.second) and has_calendar(whole.second.min(), whole.second.max())
     when = {"time": times_of(pandas.Series(whole.second), clock)} if is_dated else {"second": whole.second}
     fixes = Fixes({"animal": whole.per_fix(names), **when, "easting": east, "northing": north})

@@ -16,6 +16,7 @@ from ..record import Record
 from ..units import IANA
 from .call import as_arguments
 from .cells import cell_of, cells_of, is_missing, is_time, odd_row, row_named
+from .clocks import with_labels
 from .helps import day_of_all, with_help
 from .systems import TITLES_OF_DEGREES
 from .text import NAME, Column, Text, has_times, in_own_words, titles_named, with_rename, zones_in
@@ -84,7 +85,7 @@ def with_remedy(said: str, text: Text) -> str:
                 f"of them, as by geopandas.GeoDataFrame(frame, geometry={text.shapes!r}, crs=..)")
     if "there is no column" in said and any(sign in column.title for column in text.columns for sign in ",|"):
         return f"{said}: rename columns whose titles have a comma or |"
-    return with_help(said, text.options, text.columns)
+    return with_labels(with_help(said, text.options, text.columns), text)
 
 
 def has_lengths(column: Column) -> bool:

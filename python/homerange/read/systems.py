@@ -26,6 +26,8 @@ PROJECTED = "longitude and latitude are projected into zone "  # how the program
 HELP_LOCAL = "make {} of its coordinates, which need no CRS"
 METRE = {"metre", "meter", "metres", "meters", "m"}  # in small letters
 NEAR = 3  # degrees beside the area of a reference system in which it is used too: a shift is of 9 or more
+FIRST = re.compile("^by column [0-9]+ .*, which are not read, the first fix is near ([0-9.]+) ([EW]) ([0-9.]+) ([NS])$")
+MOST_AWAY = 20_000  # metres from there, of which the tenth of a degree is 11,000 at most
 RADIUS = (6_350_000, 6_400_000)  # metres between which that of a body is one of the Earth
 TITLES = {"easting": "point easting", "northing": "point northing"}
 TITLES_OF_DEGREES = {"lon": "point longitude", "lat": "point latitude"}
@@ -232,6 +234,20 @@ def middle_outside(crs: Any, middle: tuple[float, float]) -> str | None:
 def placed(degrees: float, ways: str) -> str:
     """Degrees as they are written, with where they go."""
     return f"{abs(degrees):.1f} {ways[degrees < 0]}"
+
+
+def refuse_elsewhere(crs: Any, said: Iterable[str], east: NDArray[numpy.float64], north: NDArray[numpy.float64]) -> None:
+    """Refuses a reference system by which no fix is where the program said that the first one is, by columns that are not read."""
+    line, place = next(((line, found) for line in said if (found := FIRST.search(line))), (None, None))
+    if crs is None or place is None:
+        return
+    from pyproj import Transformer
+
+    longitude, latitude = (float(place[at]) * (-1 if place[at + 1] in "WS" else 1) for at in (1, 3))
+    at = Transformer.from_crs(DEGREES, crs, always_xy=True).transform(longitude, latitude)
+    if not numpy.hypot(east - at[0], north - at[1]).min() <= MOST_AWAY:
+        refuse_crs(f"{line}, and by {crs.name} no fix is within {MOST_AWAY // 1000} km of there: name the system of easting and northing, "
+                   "or leave out the columns that are not theirs")
 
 
 def scales_said(crs: Any, zone: str | None, middles: Mapping[str, tuple[float, float]]) -> list[str]:

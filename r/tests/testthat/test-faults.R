@@ -82,3 +82,17 @@ test_that("a file of shapes of one kind takes no range without an area", {
   suppressWarnings(sf::st_write(sf::st_as_sf(ranges, drop_flat = TRUE), path, quiet = TRUE))
   expect_identical(nrow(sf::st_read(path, quiet = TRUE)), 1L)
 })
+
+test_that("functions of sf that are of tables of shapes refuse ranges with what makes one of them", {
+  skip_if_not_installed("sf")
+  ranges <- read_report(system.file("extdata", "report.txt", package = "homerange"))
+  point <- sf::st_sfc(sf::st_point(c(562000, 5134000)))
+  calls <- list(st_transform = list(32633), st_buffer = list(10), st_union = list(), st_centroid = list(), st_simplify = list(), st_cast = list("POINT"),
+                st_intersection = list(point), st_difference = list(point), st_crop = list(point), st_join = list(point), st_filter = list(point))
+  for (name in names(calls)) {
+    refused(do.call(getExportedValue("sf", name), c(list(ranges), calls[[name]])),
+            paste0("ranges are no table of shapes, which ", name, " wants: sf::st_as_sf(x) makes one of them"))
+  }
+  refused(sf::st_set_crs(ranges, 32633), "which st_crs<- wants: sf::st_as_sf(x) makes one of them")
+  expect_s3_class(sf::st_transform(sf::st_set_crs(sf::st_as_sf(ranges), 32633), 4326), "sf")
+})

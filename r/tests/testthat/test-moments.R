@@ -127,3 +127,92 @@ test_that("moments without a zone under a title that says UTC are refused in a s
   x$time_utc <- eval(parse(text = helps))
   expect_identical(as.numeric(read_fixes(x, time = "time_utc", quiet = TRUE)$time), 1714557600 + 3600 * 0:2)
 })
+
+# Four fixes with these times, and with a further column.
+timed <- function(time, ...) data.frame(animal = "a", time = time, easting = 500000 + 1:4, northing = 5e6 + c(1, 5, 2, 9), ...)
+
+test_that("moments of a zone that R takes otherwise than its name says are refused", {
+  skip_without_split()
+  texts <- format(as.POSIXct("2024-05-01 08:00", tz = "UTC") + 3600 * 0:3)
+  read_in <- function(zone, ...) as.numeric(quietly(read_fixes(timed(suppressWarnings(as.POSIXct(texts, tz = zone))), ...))$time)
+  utc <- as.numeric(as.POSIXct(texts, tz = "UTC"))
+  unknown <- c(CEST = "Europe/Ljubljana", MESZ = "Europe/Ljubljana", "Europe/Lubljana" = "Europe/Ljubljana", "+02:00" = "Etc/GMT-2", "-3" = "Etc/GMT+3")
+  for (zone in names(unknown)) {
+    said <- paste0("the zone ", zone, " of time is none that R knows, and has the clock of UTC there: if moments are of that, name tz = \"UTC\", ",
+                   "and else give them the zone of their clock, as by as.POSIXct(format(x[[\"time\"]]), tz = \"", unknown[[zone]], "\")")
+    for (tz in list(NULL, "Europe/Ljubljana")) expect_error(read_in(zone, tz = tz), said, fixed = TRUE, class = "homerange_columns_error")
+    expect_identical(read_in(zone, tz = "UTC"), utc)
+  }
+  turned <- list("UTC+2" = c("2 hours behind", "-2", "+2"), "GMT-1" = c("1 hour ahead of", "+1", "-1"), "utc+12" = c("12 hours behind", "-12", "+12"))
+  for (zone in names(turned)) {
+    own <- turned[[zone]]
+    said <- paste0("the zone ", zone, " of time is for R ", sub(" of$", "", own[1]), if (grepl("behind", own[1])) " UTC" else " of UTC",
+                   ": give such moments the zone of their clock, as by as.POSIXct(format(x[[\"time\"]]), tz = \"Etc/GMT", own[2],
+                   "\"), or by tz = \"Etc/GMT", own[3], "\" if that is meant")
+    for (tz in list(NULL, "UTC")) expect_error(read_in(zone, tz = tz), said, fixed = TRUE, class = "homerange_columns_error")
+  }
+  expect_error(read_in("UTC+5:30"), "5.5 hours behind UTC: .* tz = \"Europe/Ljubljana\"[)]$", class = "homerange_columns_error")
+  honest <- c(EST5EDT = 4, CET = -2, EST = 5, "Etc/GMT-2" = -2, "CET-1CEST" = -2, EST5 = 5, Z = 0, utc = 0, "UTC+0" = 0, "+00:00" = 0)
+  for (zone in names(honest)) expect_identical(read_in(zone), utc + 3600 * honest[[zone]])
+  notes <- facts_of(quietly(read_fixes(timed(as.POSIXct(texts, tz = "EST5")))))$notes
+  expect_true("days and hours are those of UTC, since the zone EST5 of time has no name, which R has 5 hours behind UTC" %in% notes)
+})
+
+test_that("a bound and a session of such a zone are refused too", {
+  skip_without_split()
+  table <- timed(as.POSIXct("2024-05-01 08:00", tz = "UTC") + 3600 * 0:3)
+  for (zone in c("CEST", "UTC+2")) {
+    since <- suppressWarnings(as.POSIXct("2024-05-01 09:00", tz = zone))
+    expect_error(quietly(read_fixes(table, since = since)), paste0("since: the zone ", zone, " is "), fixed = TRUE, class = "homerange_option_error")
+  }
+  expect_identical(nrow(quietly(read_fixes(table, since = as.POSIXct("2024-05-01 11:00", tz = "CET")))), 3L)
+  in_zone("UTC+2")
+  expect_error(quietly(read_fixes(timed(as.POSIXct("2024-05-01 08:00") + 3600 * 0:3))),
+               "the zone UTC+2 of the session is for R 2 hours behind UTC", fixed = TRUE, class = "homerange_columns_error")
+})
+
+test_that("moments labelled UTC beside a column that says another clock are refused", {
+  skip_without_split()
+  clock <- as.POSIXct("2024-05-01 08:00", tz = "UTC") + 3600 * 0:3
+  zones <- "says of which zone times are, and is not read"
+  summers <- function(row) paste0("says that times are by the clock of a summer (row ", row, ")")
+  cases <- list(list("utc_offset", 2, zones, 0), list("timezone", "Europe/Ljubljana", zones, "UTC"), list("tz", "CEST", zones, "UTC"),
+                list("isdst", 1, summers(1), 0), list("isdst", c(0, 0, NA, 1), summers(4), 0L), list("DST", c(FALSE, TRUE, TRUE, TRUE), summers(2), FALSE),
+                list("summer_time", factor(c("no", "yes", "yes", "no")), summers(2), factor(rep("no", 4), c("no", "yes"))))
+  for (case in cases) {
+    table <- timed(clock)
+    table[[case[[1]]]] <- case[[2]]
+    said <- paste0("column 5 '", case[[1]], "' ", case[[3]], ", and the moments of time are labelled UTC: if they are, remove it, and else give them ",
+                   "the zone of their clock, as by as.POSIXct(format(x[[\"time\"]]), tz = \"Europe/Ljubljana\")")
+    for (own in list(clock, as.POSIXlt(clock))) {
+      table$time <- own
+      expect_error(quietly(read_fixes(table)), said, fixed = TRUE, class = "homerange_columns_error")
+    }
+    names(table)[2] <- "when"
+    expect_error(quietly(read_fixes(table, time = "when")), "the moments of when are labelled UTC", class = "homerange_columns_error")
+    table <- transform(table, time = as.POSIXct(format(clock), tz = "Europe/Ljubljana"), when = NULL)
+    expect_identical(as.numeric(quietly(read_fixes(table))$time), as.numeric(clock) - 7200)
+    table$time <- clock
+    table[[case[[1]]]] <- case[[4]]
+    expect_identical(as.numeric(quietly(read_fixes(table))$time), as.numeric(clock))
+  }
+  texts <- timed(format(clock), capture = clock, utc_offset = 2)
+  expect_error(quietly(read_fixes(texts)), "name the zone, as by tz = \"Europe/Ljubljana\", or write", class = "homerange_columns_error")
+})
+
+test_that("moments of another part of a second are refused with it", {
+  skip_without_split()
+  clock <- 1714550400 + 3600 * 0:3
+  of_seconds <- function(numbers) .POSIXct(numbers, "UTC")
+  cases <- list(list(of_seconds(1e3 * clock), "milliseconds", " / 1e3"), list(as.POSIXlt(of_seconds(1e3 * clock)), "milliseconds", " / 1e3"),
+                list(of_seconds(1e6 * clock), "microseconds", " / 1e6"), list(.Date(clock), "seconds", ""), list(.Date(1e3 * clock), "milliseconds", " / 1e3"))
+  for (case in cases) {
+    table <- timed(as.POSIXct(clock, origin = "1970-01-01"))
+    table$time <- case[[1]]
+    expect_error(quietly(read_fixes(table)), paste0(
+      "row 1: time is far behind the year 9999 and not a time such as 2024-05-01 00:30:04: if its numbers are ", case[[2]],
+      " since 1970, make moments of them, as by x[[\"time\"]] <- as.POSIXct(as.numeric(x[[\"time\"]])", case[[3]],
+      ", origin = \"1970-01-01\", tz = \"UTC\")"), fixed = TRUE, class = "homerange_time_error")
+  }
+  expect_error(quietly(read_fixes(timed(of_seconds(c(clock[1:3], Inf))))), "row 4: time is 'inf' and not a time", class = "homerange_time_error")
+})

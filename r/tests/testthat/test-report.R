@@ -173,3 +173,29 @@ test_that("a report in UTF-16 is said to be none in UTF-8", {
                  class = "homerange_text_error")
   }
 })
+
+test_that("the shift of a report that is read without its record is said, where that lies beside its files", {
+  skip_without_program()
+  folder <- local_folder()
+  table <- data.frame(animal = "fox", second = 60 * 0:3, x = c(-744000, -743500, -743500, -744000), y = c(-1044000, -1044000, -1043500, -1043500))
+  own <- file.path(folder, "own.csv")
+  utils::write.csv(table, own, row.names = FALSE)
+  tracks <- file.path(folder, "tracks")
+  expect_null(run_split(own, character(), tracks))
+  report <- file.path(folder, "report.txt")
+  write_report(quietly(home_range(table, 100)), report)
+  path <- file.path(tracks, "split.txt")
+  said <- paste0("homerange: coordinates are shifted by 1000000 m east and 2000000 m north, as ", path, " has it, and lie so here: name it, as by record = \"",
+                 path, "\"")
+  files <- file.path(tracks, "fox.csv")
+  expect_message(read_report(report, files = files), said, fixed = TRUE, class = "homerange_moved_note")
+  expect_silent(read_report(report))
+  expect_silent(ranges <- read_report(report, files = files, record = path))
+  expect_identical(range(homerange_corners(ranges)[["fox"]][, "easting"]), c(-744000, -743500))
+  file.copy(path, file.path(folder, "split.txt"))
+  expect_message(read_report(report), "and lie so here: name it", class = "homerange_moved_note")
+  for (lines in list(sub("fox", "hare", readLines(path)), grep("^shift", readLines(path), value = TRUE, invert = TRUE), "none")) {
+    writeLines(lines, file.path(folder, "split.txt"))
+    expect_silent(read_report(report))
+  }
+})

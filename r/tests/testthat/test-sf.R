@@ -394,3 +394,17 @@ test_that("points are refused while sf has axes in the order of their authority"
   points <- sf::st_as_sf(data.frame(animal = "a", x = c(500000, 500010, 500020), y = c(5000000, 5000030, 5000010)), coords = c("x", "y"), crs = 32633)
   expect_error(read_fixes(points, quiet = TRUE), "sf::st_axis_order() is TRUE", fixed = TRUE, class = "homerange_crs_error")
 })
+
+test_that("a system is that of degrees beside the metres", {
+  skip_without_program()
+  skip_if_not_installed("sf")
+  table <- data.frame(animal = "hare", second = 0:3, x = 0, y = 0, lon = c(14.2, 14.2512, 14.1833, 14.2301), lat = c(46.3, 46.3121, 46.2887, 46.3554))
+  places <- sf::st_transform(sf::st_as_sf(table, coords = c("lon", "lat"), crs = 4326), 3794)
+  table[c("x", "y")] <- round(sf::st_coordinates(places), 1)
+  expect_identical(read_fixes(table, crs = 3794, quiet = TRUE)$easting, floor(table$x + 0.5))
+  for (crs in c(27700, 3763, 2154)) {
+    said <- paste0("crs: by column 5 'lon' and column 6 'lat', which are not read, the first fix is near 14.2 E 46.3 N, and by ", sf::st_crs(crs)$Name,
+                   " no fix is within 20 km of there: name the system of easting and northing, or leave out the columns that are not theirs")
+    expect_error(read_fixes(table, crs = crs, quiet = TRUE), said, fixed = TRUE, class = "homerange_crs_error")
+  }
+})

@@ -31,6 +31,7 @@ def columns(titles, box, rest=""):
 # Places of six fixes: longitude and latitude, and easting and northing in zone 33 of UTM, in LAEA of Europe, in Krovak's system, and by
 # Mercator's projection for maps of browsers, as PROJ has them.
 PLACES = ("14.20000,46.30000", "14.25120,46.31210", "14.18330,46.28870", "14.23010,46.35540", "14.15260,46.33320", "14.21970,46.27110")
+DEGREES = [tuple(float(part) for part in place.split(",")) for place in PLACES]
 UTM = [(438390, 5127691), (442346, 5128997), (437091, 5126449), (440768, 5133824), (434779, 5131418), (439875, 5124465)]
 LAEA = [(4644752, 2585464), (4648620, 2587030), (4643534, 2584139), (4646733, 2591739), (4640904, 2588941), (4646444, 2582345)]
 KROVAK = [(-817057, -1458071), (-812959, -1457283), (-818508, -1459139), (-813905, -1452285), (-820164, -1453904), (-815996, -1461468)]
@@ -46,6 +47,19 @@ def beside_metres(places, titles, degrees=PLACES):
     """A table of fixes at these places, beside longitude and latitude of these titles."""
     rows = (f"a,{second},{east},{north},{beside}\n" for second, ((east, north), beside) in enumerate(zip(places, degrees)))
     return f"id,second,x,y,{titles}\n{''.join(rows)}".encode()
+
+
+def said_of_first(degrees, titles="lon,lat"):
+    """What is said of the first fix by its longitude and latitude that are not read."""
+    longitude, latitude = (float(part) for part in degrees.split(","))
+    first, second = titles.split(",")
+    return f"by column 5 '{first}' and column 6 '{second}', which are not read, the first fix is near {longitude:.1f} E {latitude:.1f} N"
+
+
+def beside_degrees(places):
+    """A table of fixes at these longitudes and latitudes, beside their own."""
+    rows = (f"a,{second},{longitude},{latitude},{beside}\n" for second, ((longitude, latitude), beside) in enumerate(zip(places, PLACES)))
+    return f"id,second,gx,gy,lon,lat\n{''.join(rows)}".encode()
 
 
 def taken(places):
@@ -125,7 +139,7 @@ REFUSED = [
     ("no time", [], b"id,timestamp,x,y\na,  ,1000,2000\n", 1, "there is no timestamp"),
     *((f"degrees with their side, {cell}", [], f"id,date,lon,lat\na,2024-05-01,{cell},46.1\n".encode(), 1,
        f"lon is '{cell}' and not a number of up to 12 digits: write degrees as numbers alone, with a minus before those in the south or the west")
-      for cell in ("14.5E", "14.5 W", "14.5°", "14.5° E", "14.5°E", "-14.5o")),
+      for cell in ("14.5E", "14.5 W", "14.5°", "14.5° E", "14.5°E", "-14.5o", "E14.51", "W 14.5", "o14.5°")),
     *((f"a time with a zone, {cell}", [], f"id,date,x,y\na,{cell},1000,2000\n".encode(), 1, f"date is '{cell}' and not a time such as 2024-05-01 00:30:04: name its form, as by --time-format {form}")
       for cell, form in (("2024-05-01 10:00 UTC", "'%Y-%m-%d %H:%M UTC'"), ("13.05.2024 10:00:00 GMT", "'%d.%m.%Y %H:%M:%S GMT'"),
                          ("2024-05-01 10:00:00 CEST", "'%Y-%m-%d %H:%M:%S CEST', and its zone, as by --tz Europe/Ljubljana"),
@@ -141,6 +155,18 @@ REFUSED = [
      "column 5 'sec' has seconds, which the minutes of the time have not: join them, as by --time 'time,sec' --time-format '%Y-%m-%d %H:%M %S', or remove it"),
     ("a time of another form than that which was named", ["--time-format", "%d.%m.%Y"], b"id,date,x,y\na,13.05.2024,1000,2000\na,2024-05-14 10:30,1000,2000\n", 2,
      "date is '2024-05-14 10:30' and not a time of the form %d.%m.%Y: name its form too, behind a |, as '%Y-%m-%d %H:%M'"),
+    ("a time of a zone that others have not", ["--time-format", "%d.%m.%Y %H:%M"], b"id,date,x,y\na,13.05.2024 10:30,1000,2000\na,14.05.2024 10:30 CEST,1000,2000\n", 2,
+     "date is '14.05.2024 10:30 CEST' and not a time of the form %d.%m.%Y %H:%M: name its form too, behind a |, as '%d.%m.%Y %H:%M CEST', and its zone, as by --tz Europe/Ljubljana"),
+    ("metres with the letter of their side", [], b"id,date,x,y\na,2024-05-01,501033E,5002000N\n", 1, "x is '501033E' and not a number of up to 12 digits: write numbers alone, without the letters of their sides"),
+    *((f"a blank before an offset, {cell}", [], f"id,date,x,y\na,{cell},1000,2000\n".encode(), 1,
+       f"date is '{cell}' and not a time such as 2024-05-01 00:30:04: write its offset right behind the clock, without a blank") for cell in ("2023-06-20 00:00:51 +0000", "2023-06-20T00:00 +02:00", "2023-06-20 00:00:51.5 -03")),
+    *((f"a clock of another form, {cell}", [], f"id,date,x,y\na,{cell},1000,2000\n".encode(), 1, f"name its form, as by --time-format '{form}'") for cell, form in (
+        ("2023-06-20_00:00:26", "%Y-%m-%d_%H:%M:%S"), ("2023-06-20 00.00.26", "%Y-%m-%d %H.%M.%S"), ("2023-06-20 00h05", "%Y-%m-%d %Hh%M"))),
+    ("a time without the seconds of the form", ["--time-format", "%d/%m/%Y %H:%M:%S"], b"id,date,x,y\na,01/05/2024 10:30,1000,2000\n", 1,
+     "name its form too, behind a |, as '%d/%m/%Y %H:%M'; or, if day and month stand the other way round in all, name that form alone"),
+    *((f"degrees with minutes, {cell}", [], f"id,date,lon,lat\na,2024-05-01,{cell},46.1\n".encode(), 1, "write degrees with decimals, as 14.5 for 14 degrees and 30 minutes")
+      for cell in ("14\u00b030'20\u2033", "14\u00b030.5'", "14 30.020", "E 14\u00b030'", "14:30:20", "14\u00b030\u2032 W", "-14\u00ba 30' 20.5\u2033")),
+    *((f"no degrees with minutes, {cell}", [], f"id,date,lon,lat\na,2024-05-01,{cell},46.1\n".encode(), 1, f"lon is '{cell}' and not a number of up to 12 digits") for cell in ("501 033", "14;5", "about 14")),
     ("digits that have lost a zero", ["--time", "date,time", "--time-format", "%Y-%m-%d %H%M"], b"id,date,time,x,y\na,2024-05-01,130,1000,2000\n", 1, "not a time of the form %Y-%m-%d %H%M"),
     ("a day without its zero", ["--time-format", "%d%m%y"], b"id,date,x,y\na,10524,1000,2000\n", 1, "not a time of the form %d%m%y"),
     ("classes as numbers with decimals", [], b"id,date,x,y,argos-lc\na,2024-05-01,1000,2000,3.0\na,2024-05-02,1030,2040,b\n", None, "fixes are of Argos"),
@@ -156,8 +182,8 @@ REFUSED = [
        f"time-format is '{form}', in which a half of the day stands for itself: write %I for the hour and %p for the half")
       for form in ("%Y-%m-%d %H:%M PM", "%Y-%m-%d %H:%M:%S am", "%Y-%m-%d %H:%M p.m.")),
     *((f"times of UTC under {title}", ["--tz", "Europe/Vienna", "--time", title], f"id,{title},x,y\na,2024-05-01 10:30+02:00,1000,2000\na,2024-05-01T10:30Z,1000,2000\n".encode(), None,
-       f"column 2 '{title}' says another clock than that of UTC, and the time of record 2 ends with Z, as those of UTC do: rename the column, or write the times of that clock "
-       "without a Z, and name its zone, as by --tz Europe/Ljubljana") for title in ("local_time", "time (CET)", "timestamp_local", "Ortszeit")),
+       f"column 2 '{title}' says another clock than that of UTC, and the time of record 2 ends as those of UTC do: rename the column, or write the times of that clock "
+       "without a zone, and name its zone, as by --tz Europe/Ljubljana") for title in ("local_time", "time (CET)", "timestamp_local", "Ortszeit")),
     ("a form with an offset", ["--time-format", "%d.%m.%Y|%Y-%m-%d %H:%M+02:00"], b"id,date,x,y\na,2024-05-01 00:30+02:00,1000,2000\n", None, "time-format is '%Y-%m-%d %H:%M+02:00', which may have a zone"),
     ("a zone under a title of another language", [], b"id,date,x,y,huso\na,2024-05-01,500000,5000000,30\na,2024-05-02,500030,5000040,31\n", None, "column 5 'huso' has several values"),
     ("classes of another title, behind LC", [], b"id,date,x,y,Quality\na,2024-05-01,1000,2000,LC3\na,2024-05-02,1030,2040,lcb\n", None, "column 5 'Quality' may have Argos classes"),
@@ -194,6 +220,20 @@ REFUSED = [
     ("a letter of a side beside degrees", [], b"id,date,lon,lat,V5\na,2024-05-01,0.5,51.5,S\na,2024-05-02,0.5,51.5,S\n", None, "column 5 'V5' has S or W beside degrees above 0"),
     ("a letter of a side under its title", [], b"id,date,lon,lat,note,lat_dir\na,2024-05-01,0.5,51.5,1,S\na,2024-05-02,0.5,51.5,2,S\n", None, "column 6 'lat_dir' has S or W beside degrees above 0"),
     ("letters of two sides", [], b"id,date,lon,lat,note,half\na,2024-05-01,0.5,51.5,1,E\na,2024-05-02,0.5,51.5,2,W\n", None, "column 6 'half' has S or W beside degrees above 0"),
+    *((f"letters of sides under {title}, {cell}", [], f"id,date,lon,lat,note,{title}\na,2024-05-01,0.5,51.5,3,{cell}\na,2024-05-02,0.5,51.5,4,{cell}\n".encode(), None, f"column 6 '{title}' has S or W beside degrees above 0")
+      for titles, cell in (("North/South N/S NS latdir lat_dir NSIndicator ns_ind lat_ref GPSLatitudeRef LatitudeRef Nord/Süd", "S"), ("East/West E/W EW londir lon_dir EWIndicator ew_ind lon_ref GPSLongitudeRef LongitudeRef est/ouest", "W"))
+      for title in titles.split()),
+    *((f"classes of Argos under {title}, {one} and {other}", [], f"id,date,x,y,{title}\na,2024-05-01,1000,2000,{one}\na,2024-05-02,1030,2040,{other}\n".encode(), None,
+       f"column 5 '{title}' may have Argos classes: name it, as by --argos {title}, or rename or remove it") for title in ("lc", "LC", "class") for one, other in (("3", "B"), ("3", "2"), ("A", "Z"), ("0", ""))),
+    *((f"hours beside days under {title}", [], f"id,date,x,y,{title}\na,2024-05-01,1000,2000,7\na,2024-05-02,1030,2040,23\n".encode(), None, f"column 5 '{title}' has hours, which the days of the time have not")
+      for title in ("time [h]", "Time (h)", "time_h", "time..h.", "Čas (h)", "cas [h]", "heure (h)", "tijd (u)", "Zeit [Std]", "czas (h)", "tid (h)", "tempo (hours)")),
+    *((f"an hour that stays, and minutes, beside days under {title}", [], f"id,{title},hour,minute,second,x,y\na,2024-05-01,10,30,5,1000,2000\na,2024-05-02,10,31,7,1030,2040\n".encode(), None,
+       f"column 3 'hour' has hours, which the days of the time have not: join them, as by --time '{title},hour,minute,second' --time-format '%Y-%m-%d %H %M %S', or remove it") for title in ("date", "time", "timestamp")),
+    ("days of a year, a month and a word that is one for a tag too", [], b"id,Jahr,Monat,Tag,Stunde,x,y\na,2024,5,1,7,1000,2000\na,2024,5,1,8,1030,2040\n", None,
+     ": join them, as by --time 'Jahr,Monat,Tag,Stunde' --time-format '%Y %m %d %H', or leave them out"),
+    *((f"parts of times in another language, {titles}", [], f"id,{titles},x,y\na,2024,5,1,1000,2000\na,2024,5,2,1030,2040\n".encode(), None, f": join them, as by --time '{titles}' --time-format '%Y %m %d', or leave them out")
+      for titles in ("rok,měsíc,den", "leto,mesec,dan", "év,hónap,nap", "any,mes,dia", "år,måned,dag", "yıl,ay,gün")),
+    ("a day named as the time under a word that is another one too", ["--time", "rok,mesic,den"], b"id,rok,mesic,den,x,y\na,2024,5,1,1000,2000\n", 1, ": name its form, as by --time-format '%Y %m %d'"),
     ("a hemisphere beside degrees", [], b"id,date,lon,lat,E/W\na,2024-05-01,0.5,51.5,E\na,2024-05-02,0.5,51.5,W\n", None, "column 5 'E/W' has S or W beside degrees above 0"),
     *((f"a side in words beside degrees, {one}", [], f"id,date,lon,lat,side\na,2024-05-01,15.8,46.3,{one}\na,2024-05-02,15.8,46.3,{other}\n".encode(), None,
        "column 5 'side' has S or W beside degrees above 0, and is not read: if they lie there, write them with a minus and remove it, and else write its values otherwise")
@@ -211,7 +251,7 @@ REFUSED = [
            ("two zones", [], [(east - 462000 * (place % 2), north) for place, (east, north) in enumerate(UTM)]))),
     *((f"fixes that lie otherwise by {titles}", [], beside_metres(MERCATOR, titles), None,
        f"fixes lie otherwise by column 5 '{titles.split(',')[0]}' and column 6 '{titles.split(',')[1]}': name these, by --lon and --lat")
-      for titles in ("decimalLongitude,decimalLatitude", "lon_dd,lat_dd", "gps_lon,gps_lat", "Länge,Breite", "GPS Longitude [°],GPS Latitude [°]", "location.long,location.lat")),
+      for titles in ("decimalLongitude,decimalLatitude", "lon_dd,lat_dd", "gps_lon,gps_lat", "Länge,Breite", "GPS Longitude [°],GPS Latitude [°]", "location.long,location.lat", "Longitude (°E),Latitude (°N)", "lon_E,lat_N", "East longitude,North latitude")),
     ("halves of the day", [], b"id,time,x,y,half\na,2024-05-01 01:00,1000,2000,AM\na,2024-05-01 01:30,1030,2040,pm\n", None, "column 5 'half' has halves of the day"),
     *((f"halves of the day as {one!r} and {other!r} under {title}", [], f"id,time,x,y,{title}\na,2024-05-01 01:00,1000,2000,{one}\na,2024-05-01 01:30,1030,2040,{other}\n".encode(), None,
        f"column 5 '{title}' has halves of the day, and is not read: write them AM and PM and join it to the time") for title, one, other in (
@@ -248,7 +288,7 @@ REFUSED = [
     ("several zones without degrees", [], b"individual-local-identifier,timestamp,utm-easting,utm-northing,utm-zone\na,2024-05-01,500000,5000000,33N\na,2024-05-02,500030,5000040,34N\n", None,
      "fixes lie in several zones (33N 1, 34N 1): make a table of each"),
     ("a zone far from the degrees", [], b"individual-local-identifier,timestamp,utm-easting,utm-northing,utm-zone,location-long,location-lat\na,2024-05-01,500000,4200000,33S,15,37.9\n", 1,
-     "its UTM coordinates in 33S lie more than 10 km from its longitude and latitude"),
+     "its UTM coordinates in 33S lie more than 1 km from its longitude and latitude"),
     ("tracks of which one has no name", ["--from", "gpx"], GPX.replace("</trk>", "</trk><trk><trkseg><trkpt lat='1' lon='2'/></trkseg></trk>").encode(), None, "track 2 has no name"),
     ("waypoints alone", ["--from", "gpx"], b"<gpx><wpt lat='1' lon='2'/></gpx>", None, "has no track point"),
     ("a long cell", [], b"id,date,x,y\na,2024-05-01," + 900 * b"z" + b",1\n", 1, f"x is '{'z' * 57}... and not a number"),
@@ -327,6 +367,86 @@ REFUSED = [
     ("a sensor of no fix, and those of fixes", ["--sensor", "argos"], b"id,date,x,y,sensor-type\na,2024-05-01,1000,2000,gps\na,2024-05-02,1030,2040,gps\na,2024-05-02,1030,2040,vhf\n", None,
      "--sensor: no fix is of argos: they are of gps 2, vhf 1"),
     ("a sensor without its column", ["--sensor", "gps"], b"id,date,x,y\na,2024-05-01,1000,2000\n", None, "--sensor: no fix is of gps: no column has a usual title for the sensor: name it sensor-type, or leave --sensor out"),
+    *((f"degrees that are others, {name}", ["--lon", "gx", "--lat", "gy"], beside_degrees(degrees), None,
+       "column 3 'gx' and column 4 'gy' are read as longitude and latitude, and are, with axes swapped or without their signs, column 5 'lon' and column 6 'lat': name these, by --lon and --lat, "
+       "or remove those that are wrong") for name, degrees in (
+           ("swapped", [(latitude, longitude) for longitude, latitude in DEGREES]), ("without signs", [(-longitude, latitude) for longitude, latitude in DEGREES]),
+           ("swapped and without signs", [(latitude, -longitude) for longitude, latitude in DEGREES]))),
+    *((f"metres of another zone than the named one, {zone}", ["--zone", zone], told(UTM), None,
+       "column 3 'x' and column 4 'y' are read as metres of the zone that was named, and fixes lie more than 10 km away by column 5 'lon' and column 6 'lat': name the zone of the metres, or name these, "
+       "by --lon and --lat, or remove those that are not theirs") for zone in ("34N", "32N", "33S")),
+    *((f"times of UTC under local_time, which end with {end}", ["--tz", "Europe/Vienna", "--time", "local_time"], f"id,local_time,x,y\na,2024-05-01 10:30{end},1000,2000\n".encode(), None,
+       "column 2 'local_time' says another clock than that of UTC, and the time of record 1 ends as those of UTC do") for end in ("+00:00", "+0000", "+00", "-00:00", "Z")),
+    *((f"a time that has lost a zero, {cell}", ["--time-format", form, "--time", names], f"id,{names},x,y\na,{cell},1000,2000\n".encode(), 1,
+       "its time may have lost a zero at its end, as a spreadsheet takes 7.30 for the number 7.3: write all digits of minutes, months and days of the year")
+      for form, names, cell in (("%Y-%m-%d %H.%M", "date,time", "2024-05-01,7.3"), ("%Y.%j", "date", "2024.1"), ("%Y.%j", "date", "2024.01"), ("%d.%m %Y", "day,year", "3.1,2024"), ("%d.%m.%Y %H.%M", "date,time", "1.5.2024,12.3"))),
+    ("UTM coordinates of another row", [], b"timestamp,location-long,location-lat,individual-local-identifier,utm-easting,utm-northing,utm-zone\n"
+     b"2024-05-01,14.2,46.3,a,438390,5127691,33N\n2024-05-02,14.2512,46.3121,a,437091,5126449,33N\n2024-05-03,14.1833,46.2887,a,442346,5128997,33N\n", 2,
+     "its UTM coordinates in 33N lie more than 1 km from its longitude and latitude"),
+    *((f"fixes that do not count, by {title} of {one} and {other}", [], f"id,date,x,y,{title}\na,2024-05-01,1000,2000,{one}\na,2024-05-02,1030,2040,{other}\na,2024-05-03,1040,2040,{one}\n".encode(), None,
+       f"column 5 '{title}' may say which fixes count, and is not read: leave out the records that do not, and remove it, or write its values otherwise")
+      for title, one, other in (("exclude", "0", "1"), ("keep", "TRUE", "FALSE"), ("case_", "True", "False"), ("used", "1", "0"), ("presence", "1.0", "0.0"), ("delete?", "no", "yes"), ("status", "ok", "invalid"),
+                                ("QC", "pass", "FAIL"), ("GPS Fix Attempt", "Resolved QFP", "Failed"), ("comments", "fine", "outlier"), ("Kvalita", "dobrá", "chyba"), ("flag", "0", "1"), ("bad_fix", "F", "T"))),
+    *((f"times under {title} by the clock of {zone}", ["--tz", zone, "--time", title], f"id,{title},x,y\na,2024-01-01 10:30,1000,2000\na,2024-06-01 10:30,1030,2040\n".encode(), None,
+       f"column 2 '{title}' says a clock that is {own}, and that of {zone} is {clock} at the time of record {record}: name its zone, as by --tz {wanted}, or rename it")
+      for title, zone, own, clock, record, wanted in (
+          ("time (UTC+1)", "Europe/Ljubljana", "1 h ahead of UTC", "2 h ahead of UTC", 2, "Etc/GMT-1"), ("Time_UTC-3", "America/New_York", "3 h behind UTC", "5 h behind UTC", 1, "Etc/GMT+3"),
+          ("date_time (GMT+1)", "Asia/Tokyo", "1 h ahead of UTC", "9 h ahead of UTC", 1, "Etc/GMT-1"), ("time (UTC+02:00)", "Asia/Kolkata", "2 h ahead of UTC", "5 h 30 min ahead of UTC", 1, "Etc/GMT-2"))),
+    ("times of an offset that no zone of Etc has", ["--tz", "Europe/London", "--time", "time (UTC+5:30)"], b"id,time (UTC+5:30),x,y\na,2024-01-01 10:30,1000,2000\n", None,
+     "says a clock that is 5 h 30 min ahead of UTC, and that of Europe/London is that of UTC at the time of record 1: name its zone, by --tz, or rename it"),
+    ("a form with an offset that is not that of the zone", ["--tz", "Europe/Vienna", "--time-format", "%Y-%m-%d %H:%M +0100"], b"id,time,x,y\na,2024-01-01 10:30 +0100,1000,2000\na,2024-06-01 10:30 +0100,1000,2000\n", None,
+     "time-format says a clock that is 1 h ahead of UTC, and that of Europe/Vienna is 2 h ahead of UTC at the time of record 2: name its zone, as by --tz Etc/GMT-1, or rename it"),
+    *((f"a number of a zone that is not the named one, under {title}", ["--zone", "34N"], f"id,date,x,y,{title}\na,2024-05-01,501000,5002000,{cell}\na,2024-05-02,501030,5002040,{cell}\n".encode(), None,
+       f"column 5 '{title}' says another reference system of coordinates than is named") for title, cell in (("Huso", "33"), ("UTM_Huso", "33.0"), ("huso_utm", "30"), ("Fuseau", "3"))),
+    ("the columns of a maker, with units in their titles", [], "CollarID,UTC_Date,UTC_Time,Latitude[\u00b0],Longitude[\u00b0]\n7,2024-05-01,00:30:00,46.3,14.2\n".encode(), None,
+     "the columns are those of vectronic: read them by --from vectronic"),
+    *((f"times of UTC that are not read and are others, {titles}", options, f"id,time,x,y,{titles}\na,{first},1000,2000,{other}\na,{second},1030,2040,{last}\n".encode(), None, said)
+      for titles, options, first, second, other, last, said in (
+          ("time_utc", [], "2024-05-01 10:00", "2024-05-01 12:30", "2024-05-01 08:00", "2024-05-01 10:30",
+           "column 5 'time_utc' says UTC, and its times are 2 h before those that are read: name it, as by --time 'time_utc', or name the zone of the others, as by --tz Europe/Ljubljana"),
+          ("UTC_datetime", [], "2024-05-01 10:00", "2024-05-01 12:30", "2024-05-01T08:00:07Z", "2024-05-01T10:30:41Z", "column 5 'UTC_datetime' says UTC, and its times are 2 h before"),
+          ("gmt_time", [], "2024-05-01 10:00:09", "2024-05-01 12:30:00", "2024-05-01 14:00:09", "2024-05-01 16:30:00", "column 5 'gmt_time' says UTC, and its times are 4 h behind those"),
+          ("utc", [], "2024-05-01 10:00:09", "2024-05-01 12:30:17", "2024-05-01 04:15:09", "2024-05-01 06:45:17", "column 5 'utc' says UTC, and its times are 5 h 45 min before"),
+          ("utc_time", [], "2024-05-01 10:00:09", "2024-05-01 12:30:17", "2024-05-01 10:00:09+02:00", "2024-05-01 12:30:17+02:00", "column 5 'utc_time' says UTC, and its times are 2 h before"),
+          ("time_utc", [], "2024-01-01 10:00:09", "2024-05-01 12:30:17", "2024-01-01 10:00:09", "2024-05-01 11:30:17", "column 5 'time_utc' says UTC, and its times are 1 h before"),
+          ("time_utc", [], "2024-05-01T10:00:09Z", "2024-05-01T12:30:17Z", "2024-05-01 08:00:09", "2024-05-01 10:30:17", "name it, as by --time 'time_utc', or remove those that are wrong"),
+          ("time_utc", ["--tz", "Europe/Ljubljana"], "2024-05-01 10:00:09", "2024-05-01 12:30:17", "2024-05-01 07:00:09", "2024-05-01 09:30:17", "column 5 'time_utc' says UTC, and its times are 1 h before"),
+          ("time_utc", ["--time-format", "%d/%m/%Y %H:%M"], "01/05/2024 10:00", "01/05/2024 12:30", "01/05/2024 08:00", "01/05/2024 10:30", "column 5 'time_utc' says UTC, and its times are 2 h before"),
+          ("utc_time", [], "2024-05-01 10:00", "2024-05-01 12:30", "01.05.2024 08:00:07", "01.05.2024 10:30:41", "column 5 'utc_time' says UTC, and its times are 2 h before"),
+          ("utc_time", [], "2024-05-01 10:00", "2024-05-01 16:30", "5/1/2024 8:00:07 AM", "5/1/2024 2:30:41 PM", "column 5 'utc_time' says UTC, and its times are 2 h before"),
+          ("utc_time", [], "2024-05-01 10:00", "2024-05-01 12:30", "01/05/2024 08:00", "01/05/2024 10:30", "column 5 'utc_time' says UTC, and its times are 2 h before"),
+          ("utc_time", [], "2024-05-01 01:00:09", "2024-05-01 12:30:17", "23:00:09", "10:30:17",
+           "column 5 'utc_time' says UTC, and its times are 2 h before those that are read: name the zone of the others, as by --tz Europe/Ljubljana"),
+          ("epoch", [], "2024-05-01 10:00", "2024-05-01 12:30", "1714550400", "1714559400",
+           "column 5 'epoch' counts from 1970 in UTC, and its times are 2 h before those that are read: name it, as by --time 'epoch', or name the zone of the others"),
+          ("unix_time", [], "2024-05-01 10:00", "2024-05-01 12:30", "1714550400123", "1714559400456",
+           "column 5 'unix_time' counts from 1970 in UTC, and its times are 2 h before those that are read: name the zone of the others, as by --tz Europe/Ljubljana"),
+          ("UTC_Date,UTC_Time", [], "2024-05-01 10:00", "2024-05-01 12:30", "2024-05-01,08:00:07", "2024-05-01,10:30:41",
+           "column 5 'UTC_Date' and column 6 'UTC_Time' say UTC, and their times are 2 h before those that are read: name them, as by --time 'UTC_Date,UTC_Time', or name the zone of the others"))),
+    *((f"times of a local clock that are not read and are others, {titles} by {zone}", ["--tz", zone], f"id,timestamp,x,y,{titles}\na,2024-01-01 10:00:09,1000,2000,{other}\na,2024-05-01 12:30:17,1030,2040,{last}\n".encode(), None, said)
+      for titles, zone, other, last, said in (
+          ("study-local-timestamp", "Europe/Ljubljana", "2024-01-01 11:00:09", "2024-05-01 14:30:17",
+           "column 5 'study-local-timestamp' has other times than those that are read by the clock of Europe/Ljubljana: leave --tz out if 'timestamp' is of UTC, or name this column, "
+           "as by --time 'study-local-timestamp'"),
+          ("study-local-timestamp", "Europe/London", "2024-01-01 10:00:09", "2024-05-01 13:30:17", "column 5 'study-local-timestamp' has other times than those that are read by the clock of Europe/London"),
+          ("LMT_Date,LMT_Time", "Europe/Ljubljana", "2024-01-01,11:00:09", "2024-05-01,14:30:17",
+           "column 5 'LMT_Date' and column 6 'LMT_Time' have other times than those that are read by the clock of Europe/Ljubljana: leave --tz out if 'timestamp' is of UTC, or name these columns, "
+           "as by --time 'LMT_Date,LMT_Time'"))),
+    *((f"parts of other days, {title} {cells}", [], f"id,date,x,y,{title}\n{''.join(f'a,{day},{1000 + at},2000,{cell}{chr(10)}' for at, (day, cell) in enumerate(zip(days, cells)))}".encode(), None, said)
+      for title, days, cells, said in (
+          ("month", ("2024-01-05", "2024-02-05", "2024-05-05"), ("5", "5", "5"),
+           "column 5 'month' says 5 of record 1, whose time is read as of 2024-01-05: are day and month of the time the other way round? name its form, by --time-format, or remove the column"),
+          ("Monat", ("2024-05-05", "2024-02-05", "2024-03-05"), ("5.0", "05", "5"), "column 5 'Monat' says 5 of record 2, whose time is read as of 2024-02-05: are day and month"),
+          ("doy", ("2024-05-01", "2024-05-02"), ("200", "201"), "column 5 'doy' says 200 of record 1, whose time is read as of 2024-05-01: name its form, by --time-format, or remove the column"),
+          ("day_of_year", ("2024-05-01", "2024-05-02"), ("NA", "201"), "column 5 'day_of_year' says 201 of record 2, whose time is read as of 2024-05-02: name its form"),
+          ("year", ("2024-05-01", "2024-05-02"), ("2019", "2019"), "column 5 'year' says 2019 of record 1, whose time is read as of 2024-05-01: name its form"),
+          ("Jahr", ("2024-05-01", "2024-05-02"), ("2019", "2019"), "column 5 'Jahr' says 2019 of record 1, whose time is read as of 2024-05-01: name its form"))),
+    *((f"signs in an order that is hardly meant, {form}", ["--time-format", form], b"id,date,x,y\na,01.05.2024 10:30,1000,2000\n", None, f"time-format {says}") for form, says in (
+        ("%d.%M.%Y %H:%m", "is '%d.%M.%Y %H:%m', which has the minute before the hour: %m is the month, and %M the minute"),
+        ("%d/%m/%Y %H:%M|%m/%d/%Y %H:%M", "has '%d/%m/%Y %H:%M' and '%m/%d/%Y %H:%M', by which many texts are two days: name one of them"))),
+    *((f"times beside an offset that is not that of the zone, {title} of {cell}", ["--tz", "Europe/Ljubljana"], f"id,time,x,y,{title}\na,2024-06-01 10:30,1000,2000,{cell}\na,2024-06-02 10:30,1030,2040,{cell}\n".encode(), None,
+       f"column 5 '{title}' says a clock that is {said}, and that of Europe/Ljubljana is 2 h ahead of UTC at the time of record 1: name its zone, as by --tz {zone}, or remove it") for title, cell, said, zone in (
+           ("utc_offset", "1", "1 h ahead of UTC", "Etc/GMT-1"), ("tz", "+01:00", "1 h ahead of UTC", "Etc/GMT-1"), ("timezone", "UTC-7", "7 h behind UTC", "Etc/GMT+7"), ("UTC offset (h)", "-3", "3 h behind UTC", "Etc/GMT+3"))),
 ]
 READ = [
     *((f"a system that is the named one, {cell}", ["--zone", "33N"], f"id,date,x,y,crs\na,2024-05-01,501000,5002000,{cell}\na,2024-05-02,501030,5002040,{cell}\n".encode(),
@@ -398,7 +518,7 @@ READ = [
        [*LINES, columns("id, date, x, y", "0.030 by 0.040", ", from 2024-05-01 to 2024-05-02"), f"not read: {title}"], {"a": "a,1714521600,1000,2000\na,1714608000,1030,2040\n"})
       for title, one, other in (("deploy_on_timestamp", "2024-04-01 10:30:00", "2024-04-02 10:30:00"), ("sunrise", "2024-05-01 05:48", "2024-05-02 05:46"), ("gps_time", "2024-05-01 00:00:00", "2024-05-02 00:00:00"),
                                 ("day2", "5/1/2024 12:00:00 AM", "5/2/2024 12:00:00 AM"), ("gps_time", "2024-05-01 10:30:00", "2024-05-01 10:30:00"), ("note", "2024-05-01 10:30", "none"))),
-    *((f"longitude and latitude beside metres, {name}", [], told(places, degrees), [*LINES, columns("id, second, x, y", box, ", from second 0 to 5"), "not read: lon, lat"], taken(places))
+    *((f"longitude and latitude beside metres, {name}", [], told(places, degrees), [*([] if "NA" in degrees[0] else [said_of_first(degrees[0])]), *LINES, columns("id, second, x, y", box, ", from second 0 to 5"), "not read: lon, lat"], taken(places))
       for name, places, degrees, box in (
           ("UTM", UTM, PLACES, "7.567 by 9.359"), ("LAEA", LAEA, PLACES, "7.716 by 9.394"), ("Krovak, without its signs", [(east + 1000000, north + 2000000) for east, north in KROVAK], PLACES, "7.205 by 9.183"), ("without decimals", UTM, ["14,46"] * 6, "7.567 by 9.359"),
           ("of one place", UTM, PLACES[:1] * 6, "7.567 by 9.359"), ("missing", UTM, ["NA,NA"] * 6, "7.567 by 9.359"),
@@ -492,7 +612,40 @@ READ = [
      {"a": "a,1714521540,1000,2000\na,1714521600,1030,2040\n"}),
     *((f"degrees beside metres that are not those of fixes, {titles}", [], beside_metres(MERCATOR, titles),
        [*LINES, columns("id, second, x, y", "10.976 by 13.586", ", from second 0 to 5"), f"not read: {titles.replace(',', ', ')}"], taken(MERCATOR))
-      for titles in ("release_lon,release_lat", "Capture longitude,Capture latitude", "nest_lon,nest_lat", "lon_a,lat_b", "Länge,Höhe")),
+      for titles in ("release_lon,release_lat", "Capture longitude,Capture latitude", "nest_lon,nest_lat", "lon_a,lat_b", "Länge,Höhe", "lon_w,lat_n")),
+    *((f"words and letters that are no sides, {title}", ["--zone", "33N"], f"id,time,lon,lat,note,{title}\na,2024-05-01,15.5,46,3,{one}\na,2024-05-02,15.5,46,4,{other}\n".encode(),
+       ["longitude and latitude are projected into zone 33N; fixes by zone: 33N 2", "coordinates are rounded to whole metres, which moves a fix by at most 0.14 m",
+        columns("id, time, lon, lat", "0.000 by 0.000", " near 15.5 E 46.0 N, from 2024-05-01 to 2024-05-02"), f"not read: note, {title}"],
+       {"a": "a,1714521600,538716,5094169\na,1714608000,538716,5094169\n"})
+      for title, one, other in (("wind", "South", "North"), ("wind direction", "West", "East"), ("wind_dir", "S", "N"), ("weather", "West", "West"), ("flight direction", "South", "South"), ("heading", "W", "E"), ("Windrichtung", "Süd", "Nord"),
+                                ("vento", "E", "W"), ("muerto", "S", "N"), ("vivo", "S", "N"), ("Sim/Não", "N", "S"), ("capturado", "S", "S"), ("travel direction", "South", "North"))),
+    *((f"classes that are none of Argos, {title} {one}", [], f"id,date,x,y,{title}\na,2024-05-01,1000,2000,{one}\na,2024-05-02,1030,2040,{other}\n".encode(),
+       [*LINES, columns("id, date, x, y", "0.030 by 0.040", ", from 2024-05-01 to 2024-05-02"), f"not read: {title}"], {"a": "a,1714521600,1000,2000\na,1714608000,1030,2040\n"})
+      for title, one, other in (("lc", "forest", "meadow"), ("lc", "311", "112"), ("class", "Aves", "Aves"), ("class", "3", "forest"), ("Class", "5", "4"), ("land_class", "3", "2"), ("habitat class", "A", "B"), ("lc", "NA", ""))),
+    *((f"a column that is no part of a time, {title}", [], f"id,date,x,y,{title}\na,2024-05-01 10:30:05,1000,2000,{one}\na,2024-05-02 10:31:07,1030,2040,{other}\n".encode(),
+       [*LINES, columns("id, date, x, y", "0.030 by 0.040", ", from 2024-05-01 to 2024-05-02"), f"not read: {title}"], {"a": "a,1714559405,1000,2000\na,1714645867,1030,2040\n"})
+      for title, one, other in (("den", "3", "4"), ("nap", "1", "2"), ("any", "1", "0"), ("perc", "15", "40"), ("uri", "5", "6"), ("tag", "7", "8"), ("ay", "1", "2"), ("time [h]", "7", "8"))),
+    *((f"days beside a column that is no part of a time, {title}", [], f"id,date,x,y,{title}\na,2024-05-01,1000,2000,{one}\na,2024-05-02,1030,2040,{other}\n".encode(),
+       [*LINES, columns("id, date, x, y", "0.030 by 0.040", ", from 2024-05-01 to 2024-05-02"), f"not read: {title}"], {"a": "a,1714521600,1000,2000\na,1714608000,1030,2040\n"})
+      for title, one, other in (("den", "3", "4"), ("uri", "5", "6"), ("uri", "12", "14"), ("time lag (h)", "5", "6"), ("elapsed time (h)", "5", "6"), ("nap", "1", "2"))),
+    ("a share beside hours", ["--time", "date,hour", "--time-format", "%Y-%m-%d %H"], b"id,date,hour,perc,x,y\na,2024-05-01,7,15,1000,2000\na,2024-05-01,8,40,1030,2040\n",
+     ["times are read as %Y-%m-%d %H, in UTC", *LINES, columns("id, date, hour, x, y", "0.030 by 0.040", ", from 2024-05-01 to 2024-05-01"), "not read: perc"],
+     {"a": "a,1714546800,1000,2000\na,1714550400,1030,2040\n"}),
+    ("a year, a month and a den, beside no time", [], b"id,year,month,den,x,y\na,2024,5,1,1000,2000\na,2024,5,2,1030,2040\n",
+     ["no column has a usual title for the time: fixes are in the order of rows, as seconds 0, 1, 2, ..", *LINES, "columns: id, x, y; 1 animals, box 0.030 by 0.040 km", "not read: year, month, den"],
+     {"a": "a,0,1000,2000\na,1,1030,2040\n"}),
+    *((f"a moment beside its parts, {title}", [], f"id,{title},year,month,day,hour,minute,second,x,y\na,2024-05-01 10:30:05,2024,5,1,10,30,5,1000,2000\na,2024-05-02 10:31:07,2024,5,2,10,31,7,1030,2040\n".encode(),
+       [*LINES, columns(f"id, {title}, x, y", "0.030 by 0.040", ", from 2024-05-01 to 2024-05-02"), "not read: year, month, day, hour, minute, second"], {"a": "a,1714559405,1000,2000\na,1714645867,1030,2040\n"})
+      for title in ("time", "date", "timestamp")),
+    *((f"the animal under {title}", [], f"{title},date,x,y\na,2024-05-01,1000,2000\na,2024-05-02,1030,2040\n".encode(),
+       [*LINES, columns(f"{title}, date, x, y", "0.030 by 0.040", ", from 2024-05-01 to 2024-05-02")], {"a": "a,1714521600,1000,2000\na,1714608000,1030,2040\n"})
+      for title in ("AnimalID", "animalID", "animalid", "Animal_ID", "animal.id", "ANIMAL ID")),
+    *((f"longitude and latitude beside metres, {titles}", [], beside_metres(UTM, titles),
+       [said_of_first(PLACES[0], titles), *LINES, columns("id, second, x, y", "7.567 by 9.359", ", from second 0 to 5"), f"not read: {titles.replace(',', ', ')}"], taken(UTM))
+      for titles in ("Longitude (°E),Latitude (°N)", "lon_e,lat_n")),
+    *((f"degrees beside metres of other things than fixes, {titles}", [], beside_metres(MERCATOR, titles),
+       [*LINES, columns("id, second, x, y", "10.976 by 13.586", ", from second 0 to 5"), f"not read: {titles.replace(',', ', ')}"], taken(MERCATOR))
+      for word in ("pred", "predicted", "lag", "lead", "era5", "water", "partner", "neighbour", "nearest", "mate", "dam", "road", "grid", "cell", "pixel", "raster", "weather", "centroid") for titles in [f"{word}_lon,{word}_lat"]),
     *((f"letters that are no sides, {title}", ["--zone", "33N"], f"id,time,lon,lat,note,{title}\na,2024-05-01,15.5,46,3,{one}\na,2024-05-02,15.5,46,4,{other}\n".encode(),
        ["longitude and latitude are projected into zone 33N; fixes by zone: 33N 2", "coordinates are rounded to whole metres, which moves a fix by at most 0.14 m",
         columns("id, time, lon, lat", "0.000 by 0.000", " near 15.5 E 46.0 N, from 2024-05-01 to 2024-05-02"), f"not read: note, {title}"],
@@ -511,7 +664,7 @@ READ = [
      ["times are read as %d %b %y %H, in UTC", *LINES, columns("id, Tag, Monat, Jahr, Stunde, x, y", "0.000 by 0.000", ", from 2024-05-01 to 2024-05-01")], {"a": "a,1714543200,1000,2000\n"}),
     *((f"times of UTC under local_time beside {zone}", ["--tz", zone, "--time", "local_time"], b"id,local_time,x,y\na,2024-05-01T00:00:00Z,1000,2000\na,2024-05-02T00:00:00Z,1030,2040\n",
        [*said, *LINES, columns("id, local_time, x, y", "0.030 by 0.040", ", from 2024-05-01 to 2024-05-02")], {"a": "a,1714521600,1000,2000\na,1714608000,1030,2040\n"})
-      for zone, said in (("UTC", []), ("Etc/UTC", ["times are read as ISO text, in Etc/UTC"]))),
+      for zone, said in (("UTC", []), ("Etc/UTC", ["times are read as ISO text, by their own offsets from UTC; days and hours are those of Etc/UTC"]))),
     ("a form that says UTC beside a name of it", ["--time-format", "%Y-%m-%d %H:%MZ", "--tz", "Etc/UTC"], b"id,date,x,y\na,2024-05-01 00:00Z,1000,2000\na,2024-05-02 00:00Z,1030,2040\n",
      ["times are read as %Y-%m-%d %H:%MZ, in Etc/UTC", *LINES, columns("id, date, x, y", "0.030 by 0.040", ", from 2024-05-01 to 2024-05-02")], {"a": "a,1714521600,1000,2000\na,1714608000,1030,2040\n"}),
     ("degrees of Argos with three decimals", ["--argos-class", "3", "--zone", "33N"], f"id,second,lon,lat,argos-lc\n{''.join(f'v,{at},15.5,46,3' + chr(10) for at in range(20))}".encode(),
@@ -526,7 +679,16 @@ READ = [
           ("wann,ost,nord", ["--time", "wann", "--easting", "ost", "--northing", "nord"], ["column 2 'wann' is read as times of UTC"]),
           ("date,kolumna,druga", ["--easting", "kolumna", "--northing", "druga"], ["column 3 'kolumna' is read as eastings in metres", "column 4 'druga' is read as northings in metres"]),
           ("date,x_corrected,UTM_N", ["--easting", "x_corrected", "--northing", "UTM_N"], []),
+          *((f"{time},x,y", ["--time", time], []) for time in ("GPSTime", "Date et heure", "time_stamp", "Fecha y hora", "data e ora", "Datum und Uhrzeit", "Dato og tid", "Datum en tijd", "Dátum és idő", "дата и время", "Datum a čas", "DateUTC")),
+          *((f"date,{one},{two}", ["--easting", one, "--northing", two], []) for one, two in (
+              ("UTMX", "UTMY"), ("UTM_X", "UTM_Y"), ("xcoord", "ycoord"), ("x_coord", "y_coord"), ("coord. x", "coord. y"), ("X_UTM33", "Y_UTM33"), ("easting_m", "northing_m"), ("coordx", "coordy"), ("POSX", "POSY"))),
+          *((f"date,{one},{two}", ["--easting", one, "--northing", two], [f"column 3 '{one}' is read as eastings in metres", f"column 4 '{two}' is read as northings in metres"]) for one, two in (
+              ("x_se", "y_se"), ("a_x", "a_y"), ("from_x", "from_y"), ("ax", "ay"), ("step x", "step y"), ("xnews", "ynews"))),
           ("time of fix,GPS Easting (m),GPS Northing (m)", ["--time", "time of fix", "--easting", "GPS Easting (m)", "--northing", "GPS Northing (m)"], []))),
+    *((f"words of titles of degrees that are known, {one}", ["--lon", one, "--lat", two, "--zone", "33N"], f"id,date,{one},{two}\na,2024-05-01,15.5,46\n".encode(),
+       ["longitude and latitude are projected into zone 33N; fixes by zone: 33N 1", "coordinates are rounded to whole metres, which moves a fix by at most 0.14 m",
+        columns(f"id, date, {one}, {two}", "0.000 by 0.000", " near 15.5 E 46.0 N, from 2024-05-01 to 2024-05-01")], {"a": "a,1714521600,538716,5094169\n"})
+      for one, two in (("Zeměpisná délka", "Zeměpisná šířka"), ("geographische Länge", "geographische Breite"), ("longitudine geografica", "latitudine geografica"), ("location-long", "location-lat"), ("gpslon", "gpslat"), ("declong", "declat"))),
     ("words of titles of degrees that are not known", ["--lon", "aa", "--lat", "bb", "--zone", "33N"], b"id,date,aa,bb\na,2024-05-01,15.5,46\n",
      ["column 3 'aa' is read as longitudes: degrees, those in the west below 0", "column 4 'bb' is read as latitudes: degrees, those in the south below 0",
       "longitude and latitude are projected into zone 33N; fixes by zone: 33N 1", "coordinates are rounded to whole metres, which moves a fix by at most 0.14 m",
@@ -560,6 +722,100 @@ READ = [
     ("GPX", ["--from", "gpx"], GPX.encode(),
      ["longitude and latitude are projected into zone 33N; fixes by zone: 33N 2", "coordinates are rounded to whole metres, which moves a fix by at most 0.36 m",
       columns("animal, time, lon, lat", "0.008 by 0.011", " near 15.8 E 46.4 N, from 2024-05-01 to 2024-05-01")], {"fox": "fox,1714521600,562000,5134001\nfox,1714525200,562008,5134012\n"}),
+    ("metres of the zone that was named, beside degrees", ["--zone", "33N"], told(UTM),
+     ["coordinates are those of the table; zone: 33N", "columns: id, second, x, y; 1 animals, box 7.567 by 9.359 km near 14.2 E 46.3 N, from second 0 to 5", "not read: lon, lat"], taken(UTM)),
+    ("times with all digits behind their points", ["--time-format", "%d.%m %Y %H.%M", "--time", "day,year,time"], b"id,day,year,time,x,y\na,3.1,2024,7.30,1000,2000\na,3.10,2024,7.03,1030,2040\n",
+     ["times are read as %d.%m %Y %H.%M, in UTC", *LINES, columns("id, day, year, time, x, y", "0.030 by 0.040", ", from 2024-01-03 to 2024-10-03")], {"a": "a,1704267000,1000,2000\na,1727938980,1030,2040\n"}),
+    ("times of UTC under local_time, of a clock that is that of UTC", ["--tz", "Europe/London", "--time", "local_time"],
+     b"id,local_time,x,y\na,2024-01-01 10:30+00:00,1000,2000\na,2024-01-01 11:30+00:00,1030,2040\n",
+     ["times are read as ISO text, by their own offsets from UTC; days and hours are those of Europe/London", *LINES, columns("id, local_time, x, y", "0.030 by 0.040", ", from 2024-01-01 to 2024-01-01")], {"a": "a,1704105000,1000,2000\na,1704108600,1030,2040\n"}),
+    *((f"one axis in kilometres, {name}", [], f"id,second,x,y\n{''.join(f'a,{second},{x},{y}{chr(10)}' for second, x, y in fixes)}".encode(),
+       [*LINES, "coordinates of one axis lie within 1,000 m of 0, and those of the other beyond 100,000 m: are the first in kilometres?", columns("id, second, x, y", box, ", from second 0 to 60")],
+       {"a": "".join(f"a,{second},{x},{y}\n" for second, x, y in fixes)}) for name, fixes, box in (
+           ("eastings", [(0, 501, 5002000), (60, 502, 5003000)], "0.001 by 1.000"), ("northings", [(0, 401000, 5), (60, 401300, 7)], "0.300 by 0.002"))),
+    ("northings that no map has", [], b"id,second,x,y\na,0,5010000,52001000\na,60,5010300,52001400\n",
+     [*LINES, "coordinates are shifted by 0 m east and -52000000 m north", "northings lie more than 20,100 km from 0, where no map has any: are they in metres?", columns("id, second, x, y", "0.300 by 0.400", ", from second 0 to 60")],
+     {"a": "a,0,5010000,1000\na,60,5010300,1400\n"}),
+    *((f"{what} that were rounded", [], f"{TITLES}\n{''.join(fixes)}".encode(),
+       [f"all {what} are multiples of 100 m: were they rounded?", *LINES, f"columns: animal, second, easting, northing; {len(tracks)} animals, box {box} km, from second 0 to 19"], tracks)
+      for what, fixes, tracks, box in (
+          ("northings", [f"v,{at},{561003 + 7 * at},{5134000 + 100 * (at % 7)}\n" for at in range(20)],
+           {"v": "".join(f"v,{at},{561003 + 7 * at},{5134000 + 100 * (at % 7)}\n" for at in range(20))}, "0.133 by 0.600"),
+          ("eastings and northings of 'w'", [f"v,{at},{561003 + 7 * at},{5134007 + 10 * at}\nw,{at},{561000 + 100 * (at % 4)},{5134000 + 100 * (at % 7)}\n" for at in range(20)],
+           {"v": "".join(f"v,{at},{561003 + 7 * at},{5134007 + 10 * at}\n" for at in range(20)),
+            "w": "".join(f"w,{at},{561000 + 100 * (at % 4)},{5134000 + 100 * (at % 7)}\n" for at in range(20))}, "0.300 by 0.600"))),
+    *((f"names that differ in signs, {name}", [], f"{TITLES}\nA-1,0,1000,2000\nA-1,60,1030,2040\n{name},0,1000,2000\n{name},60,1031,2040\n".encode(),
+       [f"animals 'A-1' and '{name}' differ in the signs between words alone: are they one?", *LINES, "columns: animal, second, easting, northing; 2 animals, box 0.031 by 0.040 km, from second 0 to 60"],
+       {"A-1": "A-1,0,1000,2000\nA-1,60,1030,2040\n", name: f"{name},0,1000,2000\n{name},60,1031,2040\n"}) for name in ("A\u20131", "A_1", "A.1", "a\u22121")),
+    *((f"columns that do not choose, {title} of {one} and {other}", [], f"id,second,x,y,{title}\na,0,1000,2000,{one}\na,60,1030,2040,{other}\n".encode(),
+       [*LINES, columns("id, second, x, y", "0.030 by 0.040", ", from second 0 to 60"), f"not read: {title}"], {"a": "a,0,1000,2000\na,60,1030,2040\n"})
+      for title, one, other in (("status", "0", "1"), ("exclude", "0", "0"), ("used", "4", "5"), ("comments", "rain", "snow"), ("quality", "3D", "2D"), ("case", "7", "8"), ("status", "invalid", "invalid"),
+                                ("behaviour", "drop", "walk"), ("sex", "f", "f"), ("night_flag", "0", "1"), ("calf_presence", "0", "1"), ("Nsat_used", "0", "1"))),
+    ("a choice of fixes that none has without coordinates", [], b"id,second,x,y,GPS Fix Attempt\na,0,1000,2000,Resolved\na,60,1030,2040,Resolved\na,90,,,Failed\n",
+     ["1 records have no coordinates: left out", *LINES, columns("id, second, x, y", "0.030 by 0.040", ", from second 0 to 60"), "not read: GPS Fix Attempt"], {"a": "a,0,1000,2000\na,60,1030,2040\n"}),
+    ("times under an abbreviation of a clock that is otherwise in summer", ["--tz", "Europe/Ljubljana", "--time", "time (CET)"], b"id,time (CET),x,y\na,2024-01-01 10:30,1000,2000\na,2024-06-01 10:30,1030,2040\n",
+     ["column 2 'time (CET)' says a clock that is 1 h ahead of UTC, and that of Europe/Ljubljana is 2 h ahead of UTC at the time of record 2: is it that one in all seasons?",
+      "times are read as ISO text, in Europe/Ljubljana", *LINES, columns("id, time (CET), x, y", "0.030 by 0.040", ", from 2024-01-01 to 2024-06-01")], {"a": "a,1704101400,1000,2000\na,1717230600,1030,2040\n"}),
+    ("times under the clock of the zone", ["--tz", "Europe/Ljubljana", "--time", "time (UTC+2)"], b"id,time (UTC+2),x,y\na,2024-05-01 10:30,1000,2000\na,2024-06-01 10:30,1030,2040\n",
+     ["times are read as ISO text, in Europe/Ljubljana", *LINES, columns("id, time (UTC+2), x, y", "0.030 by 0.040", ", from 2024-05-01 to 2024-06-01")], {"a": "a,1714552200,1000,2000\na,1717230600,1030,2040\n"}),
+    ("a number of the zone that was named", ["--zone", "33N"], b"id,date,x,y,huso\na,2024-05-01,501000,5002000,33\na,2024-05-02,501030,5002040,33\n",
+     ["coordinates are those of the table; zone: 33N", columns("id, date, x, y", "0.030 by 0.040", " near 15.0 E 45.2 N, from 2024-05-01 to 2024-05-02"), "not read: huso"],
+     {"a": "a,1714521600,501000,5002000\na,1714608000,501030,5002040\n"}),
+    *((f"degrees beside others, {titles}", ["--lon", "gx", "--lat", "gy", "--zone", "33N"], f"id,second,gx,gy,{titles}\na,0,15.5,46,15.5,46\na,60,15.5,46,{other}\n".encode(),
+       ["column 3 'gx' is read as longitudes: degrees, those in the west below 0", "column 4 'gy' is read as latitudes: degrees, those in the south below 0",
+        *said, "longitude and latitude are projected into zone 33N; fixes by zone: 33N 2", "coordinates are rounded to whole metres, which moves a fix by at most 0.14 m",
+        columns("id, second, gx, gy", "0.000 by 0.000", " near 15.5 E 46.0 N, from second 0 to 60"), f"not read: {titles.replace(',', ', ')}"], {"a": "a,0,538716,5094169\na,60,538716,5094169\n"})
+      for titles, other, said in (
+          ("lon,lat", "15.52,46", ["1 fixes lie more than 1 km from column 5 'lon' and column 6 'lat', which are not read: are these theirs?"]), ("lon,lat", "15.505,46.004", []), ("lon,lat", "NA,NA", []),
+          ("release_lon,release_lat", "16,47", []), ("lon_smooth,lat_smooth", "15.6,46", []))),
+    *((f"columns of other times beside those that are read, {titles} {cells}", options, f"id,{own},x,y,{titles}\na,{first},1000,2000,{cells[0]}\na,{second},1030,2040,{cells[1]}\n".encode(),
+       [*([f"times are read as ISO text, {'by their own offsets from UTC; days and hours are those of' if first.endswith('Z') else 'in'} {options[1]}"] if options else []), *said, *LINES, columns(f"id, {own}, x, y", "0.030 by 0.040", f", from {first[:10]} to {second[:10]}"), f"not read: {titles.replace(',', ', ')}"],
+       {"a": f"a,{moments[0]},1000,2000\na,{moments[1]},1030,2040\n"})
+      for titles, own, options, first, second, moments, cells, said in (
+          # The same times, and such as are not apart as clocks are.
+          ("time_utc", "time", [], "2024-05-01 10:00:09", "2024-05-01 12:30:17", (1714557609, 1714566617), ("2024-05-01T10:00:09Z", "2024-05-01T12:30:17Z"), []),
+          ("epoch", "time", [], "2024-05-01 10:00:09", "2024-05-01 12:30:17", (1714557609, 1714566617), ("1714557609", "1714566617"), []),
+          ("unix_ms", "time", [], "2024-05-01 10:00:09", "2024-05-01 12:30:17", (1714557609, 1714566617), ("1714557609250", "1714566617999"), []),
+          ("UTC_Date,UTC_Time", "time", [], "2024-05-01 10:00:09", "2024-05-01 12:30:17", (1714557609, 1714566617), ("2024-05-01,10:00:09", "2024-05-01,12:30:17"), []),
+          ("UTC_Date", "time", [], "2024-05-01 10:00:00", "2024-05-01 12:30:00", (1714557600, 1714566600), ("2024-05-01", "2024-05-01"), []),
+          ("time_utc", "time", [], "2024-05-01 10:00:09", "2024-05-01 12:30:17", (1714557609, 1714566617), ("2024-05-01 08:00:10", "2024-05-01 10:31:17"), []),
+          ("time_utc", "time", [], "2024-05-01 10:00:09", "2024-05-01 12:30:17", (1714557609, 1714566617), ("2024-05-01 10:00:09", "2024-05-01 10:30:17"), []),
+          ("time_utc", "time", [], "2024-05-01 10:00:09", "2024-05-01 12:30:17", (1714557609, 1714566617), ("2024-04-30 19:00:09", "2024-04-30 21:30:17"), []),
+          ("time_utc", "time", ["--tz", "Europe/Ljubljana"], "2024-05-01 10:00:09", "2024-05-01 12:30:17", (1714550409, 1714559417), ("2024-05-01 08:00:09", "2024-05-01 10:30:17"), []),
+          ("received_utc,utc_sunrise", "time", [], "2024-05-01 10:00:09", "2024-05-01 12:30:17", (1714557609, 1714566617), ("2024-05-01 11:00:09,2024-05-01 04:00:09", "2024-05-01 13:30:17,2024-05-01 06:30:17"), []),
+          ("utc_time,gmt_time,utc", "time", [], "2024-05-01 10:00:09", "2024-05-01 12:30:17", (1714557609, 1714566617),
+           ("01.05.2024 10:00:09,5/1/2024 10:00:09 AM,10:00:09", "01.05.2024 12:30:17,5/1/2024 12:30:17 PM,12:30:17"), []),
+          ("utc_time", "time", [], "2024-05-01 10:00:09", "2024-05-01 12:30:17", (1714557609, 1714566617), ("0:00:35", "0:01:10"), []),
+          # Local times beside those of UTC, and the same beside those of a zone.
+          ("study-local-timestamp", "timestamp", [], "2024-01-01 10:00:09", "2024-05-01 12:30:17", (1704103209, 1714566617), ("2024-01-01 11:00:09", "2024-05-01 14:30:17"), []),
+          ("local_time", "timestamp", ["--tz", "Europe/Ljubljana"], "2024-01-01 10:00:09", "2024-05-01 12:30:17", (1704099609, 1714559417), ("2024-01-01 10:00:09", "2024-05-01 12:30:17"), []),
+          ("local_time", "timestamp", ["--tz", "Europe/London"], "2024-01-01 10:00:09", "2024-02-01 12:30:17", (1704103209, 1706790617), ("2024-01-01 10:00:09", "2024-02-01 13:30:17"), []),
+          ("study-local-timestamp", "timestamp", ["--tz", "Europe/Ljubljana"], "2024-01-01 10:00:09Z", "2024-05-01 12:30:17Z", (1704103209, 1714566617), ("2024-01-01 05:00:09", "2024-05-01 08:30:17"), []),
+          # Ends of deployments.
+          ("deploy-on-timestamp", "timestamp", [], "2024-05-01 10:00:09", "2024-05-01 12:30:17", (1714557609, 1714566617), ("2024-05-01 12:00:00.000", "2024-05-01 12:00:00.000"),
+           ["1 of 2 fixes lie before the times in column 5 'deploy-on-timestamp': are they hers?"]),
+          ("deploy_off_date", "timestamp", [], "2024-05-01 10:00:09", "2024-05-02 12:30:17", (1714557609, 1714653017), ("2024-04-30", "2024-05-01"),
+           ["2 of 2 fixes lie after the times in column 5 'deploy_off_date': are they hers?"]),
+          ("deploy_on_date,deploy_off_date,deploy_off_person", "timestamp", [], "2024-05-01 10:00:09", "2024-05-01 12:30:17", (1714557609, 1714566617), ("2024-05-01,2024-05-01,Ana", "2024-05-01,NA,Ana"), []),
+          ("deploy_on_time,deploy_off_time", "timestamp", [], "2024-05-01 10:00:09", "2024-05-01 12:30:17", (1714557609, 1714566617), ("14:00,8:00", "14:00,8:00"), []),
+          ("deploy_on_date", "timestamp", [], "2024-05-01 10:00:09", "2024-05-01 12:30:17", (1714557609, 1714566617), ("01/05/2024 12:00", "01/05/2024 12:00"),
+           ["1 of 2 fixes lie before the times in column 5 'deploy_on_date': are they hers?"]),
+          ("deploy_on_timestamp", "timestamp", ["--tz", "Europe/Ljubljana"], "2024-05-01 10:00:09", "2024-05-01 12:30:17", (1714550409, 1714559417), ("2024-05-01 10:00:00", "2024-05-01T10:30:00Z"), []),
+          # Parts of the same days, of days beside them, and of something else.
+          ("year,month,yday", "date", [], "2024-05-01", "2024-06-01", (1714521600, 1717200000), ("2024,5,122", "2024,6,153"), []),
+          ("year,month,yday", "date", [], "2024-01-01", "2024-06-01", (1704067200, 1717200000), ("2023,12,365", "23,5,152"), []),
+          ("year", "date", [], "2024-01-01", "2024-06-01", (1704067200, 1717200000), ("1", "2"), []),
+          ("month,yday", "date", [], "2024-05-01", "2024-06-01", (1714521600, 1717200000), ("5,200", "1,153"), []),
+          ("mm,birth_year,julian", "date", [], "2024-05-01", "2024-06-01", (1714521600, 1717200000), ("1,2019,2460431", "2,2019,2460462"), []),
+          ("month,year", "date", [], "2024-05-01", "2024-06-01", (1714521600, 1717200000), ("0,124", "1,124"), []),
+          ("month", "date", [], "2024-05-01", "2024-06-01", (1714521600, 1717200000), ("May", "1"), []))),
+    *((f"times beside offsets that are those of the zone, {title} of {cell}", ["--tz", "Europe/Ljubljana"], f"id,time,x,y,{title}\na,2024-06-01 10:30,1000,2000,{cell}\na,2024-06-02 10:30,1030,2040,{other}\n".encode(),
+       ["times are read as ISO text, in Europe/Ljubljana", *LINES, columns("id, time, x, y", "0.030 by 0.040", ", from 2024-06-01 to 2024-06-02"), f"not read: {title}"], {"a": "a,1717230600,1000,2000\na,1717317000,1030,2040\n"})
+      for title, cell, other in (("utc_offset", "2", "2"), ("tz", "+02:00", "+02:00"), ("timezone", "CEST", "CEST"), ("utc_offset", "1", "2"), ("utc_offset", "120", "120"))),
+    ("fixes without the name of their device", ["--animal", "name,tag", "--time", "time"],
+     b"name,tag,time,x,y\n,7,2024-06-01 10:30,1000,2000\n,7,2024-06-02 10:30,1000,2000\nAsta,7,2024-06-02 10:30,1030,2040\nAsta,7,2024-06-03 10:30,1030,2040\n,8,2024-06-01 10:30,1000,2000\n,8,2024-06-02 10:30,1000,2000\n",
+     ["2 fixes have no name and are named '7', which is 'Asta' in others: are they hers?", *LINES, "columns: name, tag, time, x, y; 3 animals, box 0.030 by 0.040 km, from 2024-06-01 to 2024-06-03"],
+     {"7": "7,1717237800,1000,2000\n7,1717324200,1000,2000\n", "Asta": "Asta,1717324200,1030,2040\nAsta,1717410600,1030,2040\n", "8": "8,1717237800,1000,2000\n8,1717324200,1000,2000\n"}),
 ]
 
 

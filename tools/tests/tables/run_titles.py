@@ -64,10 +64,17 @@ REFUSED = [
     ([], "id,second,time,x,y", "column 2 'second' and column 3 'time' both fit the time: name one, as by --time second"),
     ([], "animal,second,minute,easting,northing", "column 2 'second' and column 3 'minute' both fit the time: name one, as by --time second"),
     ([], "id,HOUR,Second,x,y", "column 3 'Second' and column 2 'HOUR' both fit the time: name one, as by --time Second"),
-    ([], "id,date,x,y,lc", "column 5 'lc' may have Argos classes: name it, as by --argos lc, or rename or remove it"),
+    ([], "id,date,x,y,lc", NO_RECORD),
     ([], f"{UTM}, Argos Loc Class",
      "column 6 'Argos Loc Class' may have Argos classes: name it, as by --argos 'Argos Loc Class', or rename or remove it"),
-    ([], "animal,second,easting,northing,CLASS", "column 5 'CLASS' may have Argos classes: name it, as by --argos CLASS, or rename or remove it"),
+    ([], "animal,second,easting,northing,CLASS", NO_RECORD),
+    ([], "id,date,x,y,class,Loc Class", "column 6 'Loc Class' may have Argos classes: name it, as by --argos 'Loc Class', or rename or remove it"),
+    (["--argos-class", "3"], "id,date,x,y,class", "column 5 'class' may have Argos classes: name it, as by --argos class, or rename or remove it"),
+    ([], "id,time,year,month,day,hour,minute,second,x,y", NO_RECORD),
+    ([], "id,timestamp,hour,minute,second,x,y", NO_RECORD),
+    ([], "id,date,time,hour,minute,second,x,y",
+     "column 2 'date' and column 3 'time' both fit the time: name one, as by --time date, or both, as by --time date,time"),
+    ([], "id,hour,minute,second,x,y", "column 4 'second' and column 2 'hour' both fit the time: name one, as by --time second"),
     ([], "id,date,x,y,class,argos-lc", "column 6 'argos-lc' and column 5 'class' both fit the Argos class: name one, as by --argos argos-lc"),
     ([], "id,date,x,y,location-class,argos-lc",
      "column 6 'argos-lc' and column 5 'location-class' both fit the Argos class: name one, as by --argos argos-lc"),
@@ -189,6 +196,9 @@ REFUSED = [
     (["--easting", "utm-northing", "--northing", "utm-easting"], UTM,
      "column 5 'utm-zone' is read beside utm-easting and utm-northing alone: rename or remove it"),
 ]
+# Signs that look like a hyphen, and blanks that do not break.
+MINUSES = ("\u2212", "\u2010", "\u2011", "\u2012", "\u2013", "\u2014", "\u2015", "\ufe63", "\uff0d")
+BLANKS = ("\u00a0", "\u202f", "\u2009", "\ufeff", "\u3000")
 # Titles of times that say another clock than that of UTC, by which word, and which zone is asked for.
 CLOCKS = [
     *((f"time ({word})", word, EXAMPLE) for word in (
@@ -254,6 +264,19 @@ CLOCKS = [
     ("time (+14)", "+14", "Etc/GMT-14"),
     ("time (-13)", "-13", None),
     ("time +9:30", "+9:30", None),
+    *((f"time (UTC{sign}3)", f"UTC{sign}3", "Etc/GMT+3") for sign in MINUSES),
+    *((f"time UTC {sign}03:00", f"UTC {sign}03:00", "Etc/GMT+3") for sign in MINUSES),
+    *((f"time ({sign}3)", f"{sign}3", "Etc/GMT+3") for sign in MINUSES),
+    *((f"time (UTC{blank}-3)", f"UTC{blank}-3", "Etc/GMT+3") for blank in BLANKS),
+    *((f"time{blank}-05:00{blank}", "-05:00", "Etc/GMT+5") for blank in BLANKS),
+    ("time (UTC \u2212 3)", "UTC \u2212 3", "Etc/GMT+3"),
+    ("utc_\u2013_10", "utc_\u2013_10", "Etc/GMT+10"),
+    ("time \uff08UTC\uff0d3\uff09", "UTC\uff0d3", "Etc/GMT+3"),
+    ("时间\uff08UTC\uff0b8\uff09", "UTC\uff0b8", "Etc/GMT-8"),
+    ("time\uff08CET\uff09", "CET", EXAMPLE),
+    ("time\u3000CET", "CET", EXAMPLE),
+    ("时间\uff1aEurope/Vienna", "Europe/Vienna", "Europe/Vienna"),
+    ("time (GMT\u22125:30)", "GMT\u22125:30", None),
     ("local +0530", "local", EXAMPLE),
     ("time [-03:30]", "-03:30", None),
     *((title, title.split()[at], EXAMPLE) for title, at in (
@@ -269,10 +292,12 @@ OF_UTC = [
     ("Sommerzeit (UTC)", "UTC"), ("Mountain time (UTC)", "UTC"), ("time UTC (Eisenstadt)", "UTC"), ("time (Zulu)", "Zulu"), ("Universal time", "Universal"),
     ("Greenwich Mean Time", "Greenwich"), ("Weltzeit", "Weltzeit"), ("světový čas", "světový"), ("SVĚTOVÝ ČAS", "SVĚTOVÝ"), ("univerzalni čas", "univerzalni"), ("yleisaika", "yleisaika"),
     ("wereldtijd", "wereldtijd"), ("Universell tid", "Universell"), ("verdenstid", "verdenstid"), ("världstid", "världstid"), ("всемирное время", "всемирное"), ("время по Гринвичу", "Гринвичу"),
+    ("时间\uff08UTC\uff09", "UTC"), ("time\uff08Z\uff09", "Z"), ("time (Etc/GMT\u22120)", "Etc/GMT"), ("time (UTC\u22120)", "UTC"),
     ("czas uniwersalny", "uniwersalny"), ("tempo universale", "universale"), ("temps universel", "universel"), ("egyetemes idő", "egyetemes"), ("letní čas (UTC)", "UTC"), ("czas GMT", "GMT"),
 ]
 # Titles of times that say no clock.
 NO_CLOCKS = [
+    "time \u2212 2", "date\u20132024", "time\u20142", "日期\uff08时间\uff09", "time\uff08GPS\uff09", "date 2024\u201305\u201301",
     "x+1", "time-2", "fix-1", "date_2024-05-01", "+3", "time+2", "time -2", "time -0530", "time - 05:00", "time + 2",
     "date 2024 -05-01", "time +02:00:00", "time (+15)", "time +2:60", "time (+123)", "time (-9999)", "time +2hours", "time (+2-3)", "time +5.3", "time (+5.)",
     "time_z", "z", "cat", "time cat", "EAT", "Ist", "ist_zeit", "Art", "pet_time", "cot", "time west", "wet time", "Ast", "Pkt.Zeit", "best time", "time/Asia",
@@ -283,6 +308,7 @@ NO_CLOCKS = [
 ]
 # Titles of times that say a clock, by which word, another zone that is named, and the zone of the remedy.
 OTHER_CLOCKS = [
+    ("time (UTC\u22123)", "UTC\u22123", "Etc/GMT-3", "Etc/GMT+3"), ("time (UTC \u20133)", "UTC \u20133", "UTC", "Etc/GMT+3"), ("Etc/GMT\u22123", "Etc/GMT\u22123", "UTC", EXAMPLE),
     ("time (UTC+2)", "UTC+2", "Etc/GMT+2", "Etc/GMT-2"), ("time (+3)", "+3", "UTC", "Etc/GMT-3"), ("time -05:00", "-05:00", "Etc/GMT+6", "Etc/GMT+5"),
     ("time (Europe/Vienna)", "Europe/Vienna", "America/New_York", "Europe/Vienna"), ("time (CET)", "CET", "Etc/UTC", EXAMPLE),
     ("time (Asia/Tokyo)", "Asia/Tokyo", "UTC", "Asia/Tokyo"), ("time +5.5", "+5.5", "GMT", None), ("utc_plus_2", "utc_plus_2", "Etc/GMT+5", "Etc/GMT-2"),
@@ -295,6 +321,7 @@ PLACES = [
     ("daylight time", "daylight"), ("standard time", "standard"), ("StandardTime", "Standard"), ("heure d'été", "été"), ("Heure d'hiver", "hiver"),
     ("hora de verano", "verano"), ("hora Chile", "Chile"), ("time Argentina", "Argentina"), ("time ET", "ET"), ("TIME_PT", "PT"), ("北京时间", "北京时间"), ("Letni\u0301 c\u030cas", "Letni\u0301"), ("Pacific time", "Pacific"), ("Mountain time", "Mountain"), ("time (Central)", "Central"), ("Central", "Central"),
     ("Eastern", "Eastern"), ("timestamp_eastern", "eastern"), ("Alaska time", "Alaska"), ("Atlantic Date", "Atlantic"), ("Vienna time", "Vienna"),
+    ("time\uff08Vienna\uff09", "Vienna"), ("time\uff08Eisenstadt\uff09", "Eisenstadt"), ("时间\uff08Eisenstadt)", "Eisenstadt"),
     ("time (Vienna)", "Vienna"), ("time..Vienna.", "Vienna"), ("Berlin", "Berlin"), ("Uhrzeit Wien", "Wien"), ("time (Los Angeles)", "Angeles"),
     ("Fecha (Santiago)", "Santiago"), ("time (Eisenstadt)", "Eisenstadt"), ("time (Österreich)", "Österreich"), ("time..Eisenstadt.", "Eisenstadt"),
     ("time [ Kaffeklubben ]", "Kaffeklubben"), ("(Eisenstadt)", "Eisenstadt"), ("time (IST)", "IST"), ("time (EAT)", "EAT"), ("date (solar)", "solar"),
@@ -309,6 +336,7 @@ PLACES = [
 OF_LANDS = [("hora oficial", "oficial"), ("Official time", "Official"), ("ora legale", "legale"), ("heure légale", "légale"), ("civil time", "civil")]
 # Titles of longitudes that say the west, and of latitudes that say the south, and by which word.
 LONGITUDES = [
+    ("经度\uff08W\uff09", "W"), ("Longitude\uff0fW", "W"), ("Longitude\u3000W", "W"), ("lon\uff1aWest", "West"), ("lon\uff08West\uff09GPS", "West"), ("Longitude\ufeffW", "W"),
     ("Longitude West", "West"), ("longitude_W", "W"), ("Lon (W)", "W"), ("Long W", "W"), ("degrees west", "west"), ("Westing", "Westing"), ("lon_w", "w"),
     ("Lon (°W)", "W"), ("W", "W"), ("°W", "W"), ("W Longitude", "W"), ("Long. W.", "W"), ("Lon..W.", "W"), ("lonWest", "West"), ("lon_w_dd", "w"),
     ("Longitude (Western hemisphere)", "Western"), ("degrees west of Greenwich", "west"), ("Longitud Oeste", "Oeste"), ("longitude ouest", "ouest"),
@@ -319,6 +347,7 @@ LONGITUDES = [
     ("zahodna dolžina", "zahodna"), ("westerlengte", "westerlengte"), ("西经", "西经"), ("经度(西经)", "西经"), ("southing", "southing"),
 ]
 LATITUDES = [
+    ("纬度\uff08S\uff09", "S"), ("纬度\uff08南纬\uff09", "南纬"),
     ("Latitude South", "South"), ("lat_S", "S"), ("lat_s", "s"), ("Lat (°S)", "S"), ("Lat (deg S)", "S"), ("Southing", "Southing"), ("S", "S"),
     ("South latitude", "South"), ("Breite (südlich)", "südlich"), ("Breite Süd", "Süd"), ("latitud sur", "sur"), ("Latitude Sul", "Sul"), ("latitude sud", "sud"),
     ("Lat..S.", "S"), ("latSouth", "South"), ("Lat S dd", "S"), ("southern latitude", "southern"), ("lat (sued)", "sued"), ("южная широта", "южная"), ("ЮЖНАЯ ШИРОТА", "ЮЖНАЯ"), ("güney enlemi", "güney"), ("déli szélesség", "déli"),
@@ -382,6 +411,7 @@ TAKEN = [
     *((["--tz", "UTC"], title) for title, _ in OF_LANDS),
     (["--tz", "Etc/GMT-2"], "time (UTC+2)"), (["--tz", "UTC"], "local time"), (["--tz", "UTC"], "heure locale"), (["--tz", "Etc/GMT-2"], "utc_plus_2"), (["--tz", "Etc/GMT+2"], "time..UTC.2."),
     (["--tz", "Etc/GMT-2"], "time..UTC.2."), (["--tz", "Etc/GMT+11"], "time {Etc/GMT+11}"),
+    *((["--tz", "Etc/GMT+3"], f"time (UTC{sign}3)") for sign in MINUSES),
 ]
 
 

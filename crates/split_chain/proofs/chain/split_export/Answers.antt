@@ -27,22 +27,6 @@ pub returns-in_err-form-clause-refused : goal.returns-in_err-form-clause-refused
 returns-in_err-form-clause-refused g c = if_err c.from_residual-in_err-form.result
     (λ refusal is. inr (record { export = c.in_ok-export.export; is_export = c.in_ok-export.ensures.export; is_refused = inr is })) (search rules)
 
-pub returns-in_err-tell_unmet-clause-refused : goal.returns-in_err-tell_unmet-clause-refused
-returns-in_err-tell_unmet-clause-refused g c = if_err c.from_residual-in_err-tell_unmet.result
-    (λ refusal is. inr (record { export = c.in_ok-export.export; is_export = c.in_ok-export.ensures.export; is_refused = inr is })) (search rules)
-
-pub returns-in_err-tell_other_points-clause-refused : goal.returns-in_err-tell_other_points-clause-refused
-returns-in_err-tell_other_points-clause-refused g c = if_err c.from_residual-in_err-tell_other_points.result
-    (λ refusal is. inr (record { export = c.in_ok-export.export; is_export = c.in_ok-export.ensures.export; is_refused = inr is })) (search rules)
-
-pub returns-in_err-tell_predeployment-clause-refused : goal.returns-in_err-tell_predeployment-clause-refused
-returns-in_err-tell_predeployment-clause-refused g c = if_err c.from_residual-in_err-tell_predeployment.result
-    (λ refusal is. inr (record { export = c.in_ok-export.export; is_export = c.in_ok-export.ensures.export; is_refused = inr is })) (search rules)
-
-pub returns-in_err-tell_unknown_words-clause-refused : goal.returns-in_err-tell_unknown_words-clause-refused
-returns-in_err-tell_unknown_words-clause-refused g c = if_err c.from_residual-in_err-tell_unknown_words.result
-    (λ refusal is. inr (record { export = c.in_ok-export.export; is_export = c.in_ok-export.ensures.export; is_refused = inr is })) (search rules)
-
-pub returns-in_err-tell_coarse-clause-refused : goal.returns-in_err-tell_coarse-clause-refused
-returns-in_err-tell_coarse-clause-refused g c = if_err c.from_residual-in_err-tell_coarse.result
+pub returns-in_err-tell_table-clause-refused : goal.returns-in_err-tell_table-clause-refused
+returns-in_err-tell_table-clause-refused g c = if_err c.from_residual-in_err-tell_table.result
     (λ refusal is. inr (record { export = c.in_ok-export.export; is_export = c.in_ok-export.ensures.export; is_refused = inr is })) (search rules)
