@@ -54,8 +54,8 @@ refuse_verb <- function(...) {
   refuse("option", "ranges are no table, which ", .Generic, " wants: dplyr::filter(x, ..) chooses among them, and as.data.frame(x) is a table of theirs")
 }
 
-# Functions of sf that are of tables of shapes.
-refuse_shapes <- function(...) {
+# Functions of sf that are of tables of shapes; one puts a value in.
+refuse_shapes <- function(..., value) {
   refuse("option", "ranges are no table of shapes, which ", .Generic, " wants: sf::st_as_sf(x) makes one of them")
 }
 
