@@ -1,0 +1,9 @@
+//! How the area at a level grew with the days and with the fixes: over the last quarter of each, and from which day on it stayed.
+#![tactic(auto)]
+
+mod areas;
+mod growth;
+mod since;
+
+pub use growth::{LevelGrowth, growth_at};
+pub use since::{MOST_PERIODS, Since};

@@ -1,0 +1,5 @@
+//! Tests of how fixes lie in time and place.
+#![tactic(auto)]
+
+mod cases;
+mod sampling;
