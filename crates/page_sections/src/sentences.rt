@@ -5,6 +5,7 @@ use crate::shown::{Shown, area, source_words};
 use page_basis::{Basis, quoted_level};
 use page_dates::{push_date, push_period};
 use page_facts::at_level;
+use page_growth::LevelGrowth;
 use page_report::{ReadAnimal, Report};
 use page_tables::Told;
 use page_text::{push_fixes, push_named, push_share_of_area, push_with_sign};
@@ -47,9 +48,9 @@ fn push_range(
     push_fixes(text, fixes)
 }
 
-// Appends how the area that is quoted grew over the last quarter of the days, if it is known.
-fn push_growth(text: &mut Vec<u8>, basis: &Basis) -> Result<(), AllocError> {
-    let Some(growth) = basis.quoted.or(basis.all) else {
+// Appends how an area grew over the last quarter of the days, if it is known.
+fn push_growth(text: &mut Vec<u8>, growth: Option<LevelGrowth>) -> Result<(), AllocError> {
+    let Some(growth) = growth else {
         return Ok(());
     };
     if growth.area2 == 0 {
@@ -106,11 +107,13 @@ fn push_left_out(text: &mut Vec<u8>, shown: &Shown, told: &Told) -> Result<(), A
 fn push_caveats(
     text: &mut Vec<u8>,
     shown: &Shown,
+    level: u8,
     told: &Told,
     basis: &Basis,
 ) -> Result<(), AllocError> {
+    let growth = if level < ALL { basis.quoted } else { basis.all };
     push_left_out(text, shown, told)?;
-    push_growth(text, basis)?;
+    push_growth(text, growth)?;
     push_one_fix(text, shown, basis, told.facts.growth.area2)
 }
 
@@ -145,7 +148,7 @@ fn push_sentence(
     push_named(text, &animal.name)?;
     text.extend_from_slice(b": ")?;
     push_area(text, shown, level, animal)?;
-    push_caveats(text, shown, told, basis)?;
+    push_caveats(text, shown, level, told, basis)?;
     text.extend_from_slice(b"</li>\n")
 }
 
