@@ -86,11 +86,11 @@ fn push_overlaps(alloc: Global, text: &mut Vec<u8>, page: &Page) -> Result<(), A
     push_overlap_table(alloc, text, page.shown.report)
 }
 
-// Appends how many fixes were left out.
-fn push_all_left(text: &mut Vec<u8>, page: &Page) -> Result<(), AllocError> {
-    match &page.totals {
-        Some(totals) => push_left_out(text, page.shown.source, totals),
-        None => text.extend_from_slice(b"How many fixes were left out is not known."),
+// What was said when the fixes were read.
+fn said_of<'a>(page: &Page<'a>) -> &'a [Vec<u8>] {
+    match page.record {
+        Some(record) => &record.said,
+        None => &[],
     }
 }
 
@@ -99,11 +99,11 @@ fn push_all_method(alloc: Global, text: &mut Vec<u8>, page: &Page) -> Result<(),
     text.extend_from_slice(BEFORE_METHOD)?;
     push_method(alloc, text, &page.shown, page.made.version, page.system)?;
     text.extend_from_slice(b" ")?;
-    push_all_left(text, page)?;
+    push_left_out(text, page.shown.source, page.totals.as_ref(), said_of(page))?;
     match page.record {
         Some(record) => {
             push_options(text, record)?;
-            push_said(text, &record.said)
+            push_said(alloc, text, &record.said)
         }
         None => Ok(()),
     }
