@@ -168,8 +168,8 @@ pub(crate) const BEFORE_CHECKSUMS: &[u8] = br##"</p>
 <p class="text">Mohr, C. O. 1947. Table of equivalent populations of North American small mammals. The American Midland Naturalist 37: 223&#8211;249. Harris, S., W. J. Cresswell, P. G. Forde, W. J. Trewhella, T. Woollard and S. Wray. 1990. Home-range analysis using radio-tracking data &#8211; a review of problems and techniques particularly as applied to the study of mammals. Mammal Review 20: 97&#8211;123.</p>
 </section>
 <section>
-<h2>Limits</h2>
-<p class="limits">Proved: the numbers follow from the files of fixes. Not proved: export, projection, pictures, this page.</p>
+<h2>Proof and its limits</h2>
+<p class="limits">Checked by machine proof: report.txt, from the files of fixes. Compared by tests: this page, its tables and drawings, the way from the export. Not checked: the export itself.</p>
 <p class="limits">A minimum convex polygon grows with each outlier and with the time for which an animal was followed, and says nothing of how the animal used the land within it.</p>
 </section>
 <section>
