@@ -4,7 +4,7 @@ use crate::page::Page;
 use crate::template::{
     BEFORE_ANIMALS, BEFORE_CHECKSUMS, BEFORE_CURVES, BEFORE_GROUND, BEFORE_KEY, BEFORE_MAPS,
     BEFORE_METHOD, BEFORE_NOTES, BEFORE_OVERLAP, BEFORE_OVERLAPS, BEFORE_SENTENCES, BEFORE_SIZE,
-    BEFORE_VERIFY, BEHIND_VERIFY,
+    BEFORE_TENTH, BEFORE_VERIFY, BEHIND_VERIFY, TENTH,
 };
 use page_curves::push_curves;
 use page_facts::Facts;
@@ -15,6 +15,7 @@ use page_sections::{
     push_overlap_sentence, push_overlap_table, push_said, push_sentences, push_sums, push_verify,
     push_without_range,
 };
+use range_plane::Scale;
 use std::alloc::{AllocError, Global};
 
 // The most animals whose curves are kept on one sheet.
@@ -94,6 +95,15 @@ fn said_of<'a>(page: &Page<'a>) -> &'a [Vec<u8>] {
     }
 }
 
+// Appends the words that a reader may not know.
+fn push_words(text: &mut Vec<u8>, unit: Scale) -> Result<(), AllocError> {
+    text.extend_from_slice(BEFORE_TENTH)?;
+    match unit {
+        Scale::Metre => Ok(()),
+        Scale::Decimetre => text.extend_from_slice(TENTH),
+    }
+}
+
 // Appends the method, with what was left out and what was said.
 fn push_all_method(alloc: Global, text: &mut Vec<u8>, page: &Page) -> Result<(), AllocError> {
     text.extend_from_slice(BEFORE_METHOD)?;
@@ -144,6 +154,7 @@ pub(crate) fn push_body(alloc: Global, text: &mut Vec<u8>, page: &Page) -> Resul
     push_maps(alloc, text, page)?;
     push_all_curves(alloc, text, page)?;
     push_overlaps(alloc, text, page)?;
+    push_words(text, page.shown.report.unit)?;
     push_all_method(alloc, text, page)?;
     push_all_sums(text, page)
 }

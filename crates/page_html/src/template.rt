@@ -157,8 +157,17 @@ pub(crate) const BEFORE_OVERLAPS: &[u8] = br##"</p>
 <div class="scroll">
 "##;
 
-pub(crate) const BEFORE_METHOD: &[u8] = br##"
+pub(crate) const BEFORE_TENTH: &[u8] = br##"
 </div>
+</section>
+<section>
+<h2>Words</h2>
+<p class="text"><b>Fix</b>: a place of an animal with its time. <b>Minimum convex polygon</b>: of all shapes around some fixes the smallest without a dent, as a string drawn tight around pins. <b>Per cent</b> of such a polygon, as 95 %: how many of the fixes are kept, not how likely the animal is there. <b>Grid</b>: the flat map with eastings and northings in metres, on which areas are measured. <b>Ellipsoid</b>: the smooth round shape of the Earth, without heights, to which a flat grid is never quite true. <b>Hectare</b> (ha): 10,000 square metres, as a square of 100 metres a side. <b>UTC</b>: the time that all countries share, without zones and summer time."##;
+
+// What a decimetre is, on pages whose unit it is.
+pub(crate) const TENTH: &[u8] = b" <b>Decimetre</b>: a tenth of a metre.";
+
+pub(crate) const BEFORE_METHOD: &[u8] = br##"</p>
 </section>
 <section>
 <h2>Method</h2>
