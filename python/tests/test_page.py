@@ -66,7 +66,7 @@ def test_a_sentence_for_each_animal(page):
     assert page.all("li")[3] == "NA: 95 % MCP has no area, 1 fix, 1 Mar 2024"
     assert page.fields["period"] == f"1 to 3 Mar 2024 (dates of {ZONE})"
     assert "Pairs of animals that meet: " in page.text
-    assert "Areas on the grid differ from those on the ground by -0.07 % here." in page.text
+    assert "Areas on the grid differ from those on the ellipsoid by -0.07 % here." in page.text
 
 
 def test_the_last_fix_of_a_gap_and_of_even_intervals(tmp_path):

@@ -95,8 +95,8 @@ options_of_page <- function(x, words, day, program, record) {
   sprintf("--%s=%s", names(options), in_utf8(unlist(options)))
 }
 
-# By how much areas on the grid differ from those on the ground, in per cent, at the least and at the most; NULL where it is not known
-# here. That of UTM is known to the program.
+# By how much areas on the grid differ from those on the ellipsoid, in per cent, at the least and at the most; NULL where it is
+# not known here. That of UTM is known to the program.
 area_difference <- function(x) {
   if (!is.null(x$zone) || is.null(x$crs) || !is.null(zone_of_crs(x$crs))) return(NULL)
   scales_at <- scales_of_crs(x$crs)

@@ -169,7 +169,7 @@ def _(hand):
 
 @of_system("a word for the difference on the page", f"{PAGE} .*nothing % here.*, and .*0.00 % here.* is wanted")
 def _(hand):
-    hand.sealed_sub("report.html", "on the ground by [-+0-9. to]+ % here", "on the ground by nothing % here")
+    hand.sealed_sub("report.html", "on the ellipsoid by [-+0-9. to]+ % here", "on the ellipsoid by nothing % here")
 
 
 if __name__ == "__main__":

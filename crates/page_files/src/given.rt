@@ -22,7 +22,7 @@ pub struct Words<'a> {
     pub system: Option<&'a [u8]>,
     /// How many metres were added to eastings and northings, where there is no record.
     pub shift: (i32, i32),
-    /// By how much areas on the grid differ from those on the ground; of a zone that the record names it is computed.
+    /// By how much areas on the grid differ from those on the ellipsoid; of a zone that the record names it is computed.
     pub differences: Option<Differences>,
     /// Whether the page is handed in without its folder.
     pub is_alone: bool,

@@ -60,7 +60,7 @@ fn plane_of(
     })
 }
 
-// By how much areas on the grid differ from those on the ground.
+// By how much areas on the grid differ from those on the ellipsoid.
 fn differences(
     alloc: Global,
     words: &Words,

@@ -1,4 +1,4 @@
-// By how much areas on a grid differ from those on the ground.
+// By how much areas on a grid differ from those on the ellipsoid.
 
 ghost use Rattle.std.specs.Prelude.{◌≤◌, ◌<◌};
 
@@ -23,7 +23,7 @@ const MIDDLE: u128 = 99_920_016;
 
 const WHOLE: u128 = 100_000_000;
 
-/// By how much areas on a grid differ from those on the ground, in hundredths of a per cent.
+/// By how much areas on a grid differ from those on the ellipsoid, in hundredths of a per cent.
 #[derive(Clone, Copy, PartialEq, Eq, Debug)]
 pub struct Difference {
     pub is_less: bool,
@@ -81,8 +81,8 @@ fn difference_of(scale: u128) -> Difference
     }
 }
 
-/// By how much areas on the grid of a UTM zone differ from those on the ground at a distance from the middle of the zone, in halves of
-/// a millimetre: by the areal scale of the transverse Mercator projection of the sphere, the square of 0.9996 times the hyperbolic
+/// By how much areas on the grid of a UTM zone differ from those on the ellipsoid at a distance from the middle of the zone, in halves
+/// of a millimetre: by the areal scale of the transverse Mercator projection of the sphere, the square of 0.9996 times the hyperbolic
 /// cosine of the distance over 0.9996 times the mean radius. `None` more than 1,000 km from the middle.
 pub fn difference_of_utm(distance: u64) -> Option<Difference> {
     if distance > FARTHEST {

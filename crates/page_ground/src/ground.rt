@@ -8,17 +8,17 @@ use std::alloc::AllocError;
 // How many animals that are too small to be seen have their numbers in the sentence.
 const MOST_UNSEEN: usize = 20;
 
-// Appends by how much areas on the grid differ from those on the ground.
+// Appends by how much areas on the grid differ from those on the ellipsoid.
 fn push_differences(
     text: &mut Vec<u8>,
     differences: Option<Differences>,
 ) -> Result<(), AllocError> {
     let Some(Differences { least, most }) = differences else {
         return text.extend_from_slice(
-            b"How areas on this grid differ from those on the ground is not known.",
+            b"How areas on this grid differ from those on the ellipsoid is not known.",
         );
     };
-    text.extend_from_slice(b"Areas on the grid differ from those on the ground by ")?;
+    text.extend_from_slice(b"Areas on the grid differ from those on the ellipsoid by ")?;
     least.push(text)?;
     if least != most {
         text.extend_from_slice(b" to ")?;

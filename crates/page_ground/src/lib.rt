@@ -1,5 +1,5 @@
 //! What stands beside the maps: what lines and numbers are, what the reference system is, and by how much areas on its grid differ
-//! from those on the ground.
+//! from those on the ellipsoid.
 #![tactic(auto)]
 
 mod difference;

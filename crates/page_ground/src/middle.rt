@@ -1,4 +1,4 @@
-// By how much areas on the grid of a UTM zone differ from those on the ground where animals have their ranges.
+// By how much areas on the grid of a UTM zone differ from those on the ellipsoid where animals have their ranges.
 
 use crate::difference::{Difference, Differences, difference_of_utm};
 use page_map::{Ground, Plane, Shape, ground_of};
@@ -40,7 +40,7 @@ fn distances_of(plane: Plane, shapes: &[Shape]) -> Option<(u64, u64)> {
     ends
 }
 
-/// By how much areas on the grid of a UTM zone differ from those on the ground in the middles of the boxes of ranges, which it does
+/// By how much areas on the grid of a UTM zone differ from those on the ellipsoid in the middles of the boxes of ranges, which it does
 /// the more, the farther they lie from the middle of the zone. `None` where there is no range, or one is farther from there than
 /// 1,000 km.
 pub fn differences_of(plane: Plane, shapes: &[Shape]) -> Option<Differences> {

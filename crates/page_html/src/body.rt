@@ -4,7 +4,7 @@ use crate::page::Page;
 use crate::template::{
     BEFORE_ANIMALS, BEFORE_CHECKSUMS, BEFORE_CURVES, BEFORE_GROUND, BEFORE_KEY, BEFORE_MAPS,
     BEFORE_METHOD, BEFORE_NOTES, BEFORE_OVERLAP, BEFORE_OVERLAPS, BEFORE_SENTENCES, BEFORE_SIZE,
-    BEFORE_VERIFY, BEHIND_VERIFY,
+    BEFORE_TENTH, BEFORE_VERIFY, BEHIND_VERIFY, TENTH,
 };
 use page_curves::push_curves;
 use page_facts::Facts;
@@ -15,6 +15,7 @@ use page_sections::{
     push_options, push_overlap_sentence, push_overlap_table, push_said, push_sampling_table,
     push_sentences, push_sums, push_verify, push_without_range,
 };
+use range_plane::Scale;
 use std::alloc::{AllocError, Global};
 
 // The most animals whose curves are kept on one sheet.
@@ -88,11 +89,20 @@ fn push_overlaps(alloc: Global, text: &mut Vec<u8>, page: &Page) -> Result<(), A
     push_overlap_table(alloc, text, page.shown.report)
 }
 
-// Appends how many fixes were left out.
-fn push_all_left(text: &mut Vec<u8>, page: &Page) -> Result<(), AllocError> {
-    match &page.totals {
-        Some(totals) => push_left_out(text, page.shown.source, totals),
-        None => text.extend_from_slice(b"How many fixes were left out is not known."),
+// What was said when the fixes were read.
+fn said_of<'a>(page: &Page<'a>) -> &'a [Vec<u8>] {
+    match page.record {
+        Some(record) => &record.said,
+        None => &[],
+    }
+}
+
+// Appends the words that a reader may not know.
+fn push_words(text: &mut Vec<u8>, unit: Scale) -> Result<(), AllocError> {
+    text.extend_from_slice(BEFORE_TENTH)?;
+    match unit {
+        Scale::Metre => Ok(()),
+        Scale::Decimetre => text.extend_from_slice(TENTH),
     }
 }
 
@@ -101,11 +111,11 @@ fn push_all_method(alloc: Global, text: &mut Vec<u8>, page: &Page) -> Result<(),
     text.extend_from_slice(BEFORE_METHOD)?;
     push_method(alloc, text, &page.shown, page.made.version, page.system)?;
     text.extend_from_slice(b" ")?;
-    push_all_left(text, page)?;
+    push_left_out(text, page.shown.source, page.totals.as_ref(), said_of(page))?;
     match page.record {
         Some(record) => {
             push_options(text, record)?;
-            push_said(text, &record.said)
+            push_said(alloc, text, &record.said)
         }
         None => Ok(()),
     }
@@ -146,6 +156,7 @@ pub(crate) fn push_body(alloc: Global, text: &mut Vec<u8>, page: &Page) -> Resul
     push_maps(alloc, text, page)?;
     push_all_curves(alloc, text, page)?;
     push_overlaps(alloc, text, page)?;
+    push_words(text, page.shown.report.unit)?;
     push_all_method(alloc, text, page)?;
     push_all_sums(text, page)
 }

@@ -29,7 +29,7 @@ pub struct Page<'a> {
     pub boundary: Option<&'a [Vec<Ground>]>,
     /// The reference system, as it is written.
     pub system: &'a [u8],
-    /// By how much areas on its grid differ from those on the ground; none where it is not known.
+    /// By how much areas on its grid differ from those on the ellipsoid; none where it is not known.
     pub differences: Option<Differences>,
     /// The SHA-256 checksum of the report, in 64 digits; none where its folder is not handed in.
     pub report_sum: Option<&'a [u8]>,

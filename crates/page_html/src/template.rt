@@ -157,8 +157,17 @@ pub(crate) const BEFORE_OVERLAPS: &[u8] = br##"</p>
 <div class="scroll">
 "##;
 
-pub(crate) const BEFORE_METHOD: &[u8] = br##"
+pub(crate) const BEFORE_TENTH: &[u8] = br##"
 </div>
+</section>
+<section>
+<h2>Words</h2>
+<p class="text"><b>Fix</b>: a place of an animal with its time. <b>Minimum convex polygon</b>: of all shapes around some fixes the smallest without a dent, as a string drawn tight around pins. <b>Per cent</b> of such a polygon, as 95 %: how many of the fixes are kept, not how likely the animal is there. <b>Grid</b>: the flat map with eastings and northings in metres, on which areas are measured. <b>Ellipsoid</b>: the smooth round shape of the Earth, without heights, to which a flat grid is never quite true. <b>Hectare</b> (ha): 10,000 square metres, as a square of 100 metres a side. <b>UTC</b>: the time that all countries share, without zones and summer time."##;
+
+// What a decimetre is, on pages whose unit it is.
+pub(crate) const TENTH: &[u8] = b" <b>Decimetre</b>: a tenth of a metre.";
+
+pub(crate) const BEFORE_METHOD: &[u8] = br##"</p>
 </section>
 <section>
 <h2>Method</h2>
@@ -168,8 +177,8 @@ pub(crate) const BEFORE_CHECKSUMS: &[u8] = br##"</p>
 <p class="text">Mohr, C. O. 1947. Table of equivalent populations of North American small mammals. The American Midland Naturalist 37: 223&#8211;249. Harris, S., W. J. Cresswell, P. G. Forde, W. J. Trewhella, T. Woollard and S. Wray. 1990. Home-range analysis using radio-tracking data &#8211; a review of problems and techniques particularly as applied to the study of mammals. Mammal Review 20: 97&#8211;123.</p>
 </section>
 <section>
-<h2>Limits</h2>
-<p class="limits">Proved: the numbers follow from the files of fixes. Not proved: export, projection, pictures, this page.</p>
+<h2>Proof and its limits</h2>
+<p class="limits">Checked by machine proof: report.txt, from the files of fixes. Compared by tests: this page, its tables and drawings, the way from the export. Not checked: the export itself.</p>
 <p class="limits">A minimum convex polygon grows with each outlier and with the time for which an animal was followed, and says nothing of how the animal used the land within it.</p>
 </section>
 <section>

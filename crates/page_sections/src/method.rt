@@ -44,7 +44,9 @@ fn push_program(
     unit: Scale,
     system: &[u8],
 ) -> Result<(), AllocError> {
-    text.extend_from_slice(b" of the fixes, computed by ")?;
+    text.extend_from_slice(
+        b" of the fixes; that of all fixes is the one of Mohr (1947). They were computed by ",
+    )?;
     push_escaped(text, version)?;
     text.extend_from_slice(b" from coordinates in whole ")?;
     text.extend_from_slice(unit_words(unit))?;
@@ -58,9 +60,9 @@ const RULE: &[u8] =
     b"Of n fixes, the polygon at p % has the p per cent of n, rounded up to whole fixes, that lie nearest to the arithmetic mean of all \
     (of fixes as near, the earlier). Areas are those on the grid. Here they are rounded, halves up, to whole hectares, below 100 \
     hectares to three digits, and below 1 hectare they are in square metres. The area of the 100 % polygon was followed fix by fix \
-    (incremental area analysis, Harris et al. 1990): &#8216;last quarter&#8217; is by how much it grew over the last quarter of the \
-    fixes, as a share of the final area, and &#8216;95 % since&#8217; is the first fix from which on it stayed at 95 % or more of the \
-    final one.";
+    (incremental area analysis, Harris et al. 1990). Here &#8216;last quarter&#8217; is by how much it grew over the last quarter of \
+    the fixes, as a share of the final area, and &#8216;95 % since&#8217; is the first fix from which on it stayed at 95 % or more of \
+    the final one.";
 
 /// Appends how ranges were made, by a program of this version, of coordinates of this reference system.
 ///
@@ -74,7 +76,7 @@ pub fn push_method(
     version: &[u8],
     system: &[u8],
 ) -> Result<(), AllocError> {
-    text.extend_from_slice(b"Home ranges are minimum convex polygons (MCP; Mohr 1947) of ")?;
+    text.extend_from_slice(b"Home ranges are minimum convex polygons (MCP) of ")?;
     push_levels(text, &falling_levels(alloc, shown.report)?)?;
     push_program(text, version, shown.report.unit, system)?;
     text.extend_from_slice(RULE)
@@ -118,16 +120,13 @@ fn push_nothing_left(text: &mut Vec<u8>, source: Source, records: u64) -> Result
     text.extend_from_slice(b").")
 }
 
-/// Appends what was left out of all fixes of the export or the table.
-///
-/// # Errors
-///
-/// Memory ran out.
-pub fn push_left_out(
-    text: &mut Vec<u8>,
-    source: Source,
-    totals: &Totals,
-) -> Result<(), AllocError> {
+// Whether a line says that fixes were chosen since they were read, so that more may be left out than is counted.
+fn is_of_choice(line: &[u8]) -> bool {
+    line.starts_with(b"the fixes are not as they were read: ")
+}
+
+// Appends how many fixes were left out, and why, or that none was.
+fn push_counted(text: &mut Vec<u8>, source: Source, totals: &Totals) -> Result<(), AllocError> {
     let gone = gone(totals);
     if gone == 0 {
         return push_nothing_left(text, source, totals.records);
@@ -140,6 +139,25 @@ pub fn push_left_out(
     push_count(text, gone)?;
     text.extend_from_slice(b" were left out: ")?;
     push_causes(text, totals)
+}
+
+/// Appends what was left out of all fixes of the export or the table, if it is known, when these lines were said of them.
+///
+/// # Errors
+///
+/// Memory ran out.
+pub fn push_left_out(
+    text: &mut Vec<u8>,
+    source: Source,
+    totals: Option<&Totals>,
+    said: &[Vec<u8>],
+) -> Result<(), AllocError> {
+    match totals {
+        Some(totals) if gone(totals) > 0 || !said.iter().any(|line| is_of_choice(line)) => {
+            push_counted(text, source, totals)
+        }
+        _ => text.extend_from_slice(b"How many fixes were left out is not known."),
+    }
 }
 
 // A line behind the number with which it begins; empty where it begins with none.
@@ -159,13 +177,27 @@ fn is_of_files(line: &[u8]) -> bool {
     }
 }
 
-// Whether a line is on one animal, on columns or on files, which the page has elsewhere or not at all. Its start tells: names and
-// titles that stand in lines are those of strangers.
+// Whether a line is on columns or on files, which the page has elsewhere or not at all. Its start tells: names and titles that stand
+// in lines are those of strangers.
 fn is_passed(line: &[u8]) -> bool {
-    line.starts_with(b"columns: ")
-        || line.starts_with(b"not read: ")
-        || behind_number(line).starts_with(b" records of ")
-        || is_of_files(line)
+    line.starts_with(b"columns: ") || line.starts_with(b"not read: ") || is_of_files(line)
+}
+
+// Whether a line is on records of one animal. Such lines come last, since there may be many.
+fn is_of_animal(line: &[u8]) -> bool {
+    behind_number(line).starts_with(b" records of ")
+}
+
+// The lines that are quoted, in their order.
+fn quoted<'a>(alloc: Global, lines: &'a [Vec<u8>]) -> Result<Vec<&'a [u8]>, AllocError> {
+    let mut quoted: Vec<&[u8]> = Vec::new(alloc);
+    for line in lines {
+        if !is_passed(line) {
+            quoted.push(line)?;
+        }
+    }
+    quoted.sort_by_key(|line| is_of_animal(line))?;
+    Ok(quoted)
 }
 
 // Appends a line that was said, in quotes.
@@ -191,36 +223,27 @@ fn push_more(text: &mut Vec<u8>, more: usize) -> Result<(), AllocError> {
 }
 
 // Appends the first lines, and how many more there are.
-fn push_lines(text: &mut Vec<u8>, lines: &[Vec<u8>]) -> Result<(), AllocError> {
-    let mut quoted: usize = 0;
-    let mut more: usize = 0;
-    for line in lines {
-        if is_passed(line) {
-            continue;
-        }
-        if quoted < MOST_SAID {
-            let before: &[u8] = if quoted == 0 { b"" } else { b"; " };
-            text.extend_from_slice(before)?;
-            push_line(text, line)?;
-            quoted = quoted.saturating_add(1);
-        } else {
-            more = more.saturating_add(1);
-        }
+fn push_lines(text: &mut Vec<u8>, lines: &[&[u8]]) -> Result<(), AllocError> {
+    for (place, line) in lines.iter().take(MOST_SAID).enumerate() {
+        let before: &[u8] = if place == 0 { b"" } else { b"; " };
+        text.extend_from_slice(before)?;
+        push_line(text, line)?;
     }
-    push_more(text, more)
+    push_more(text, lines.len().saturating_sub(MOST_SAID))
 }
 
-/// Appends what was said when fixes were read, but for lines on one animal, on columns and on files.
+/// Appends what was said when fixes were read, but for lines on columns and on files; lines on records of one animal come last.
 ///
 /// # Errors
 ///
 /// Memory ran out.
-pub fn push_said(text: &mut Vec<u8>, lines: &[Vec<u8>]) -> Result<(), AllocError> {
-    if lines.iter().all(|line| is_passed(line)) {
+pub fn push_said(alloc: Global, text: &mut Vec<u8>, lines: &[Vec<u8>]) -> Result<(), AllocError> {
+    let quoted = quoted(alloc, lines)?;
+    if quoted.is_empty() {
         return Ok(());
     }
     text.extend_from_slice(b" When the fixes were read this was said: ")?;
-    push_lines(text, lines)?;
+    push_lines(text, &quoted)?;
     text.extend_from_slice(b".")
 }
 

@@ -40,7 +40,7 @@ Options:
                                where there is no tracks/split.txt [default: 0,0]
       --area-difference <LEAST,MOST>
                                Per cent by which areas on the grid differ from
-                               those on the ground, such as -0.07,+0.12; of a
+                               those on the ellipsoid, such as -0.07,+0.12; of a
                                UTM zone it is computed
       --made <DAY>             Day of making, such as 2026-11-30
       --program <TEXT>         What the program that made the report says of its

@@ -25,7 +25,7 @@ pub struct PageWords<'a> {
     pub system: Option<&'a str>,
     /// How many metres were added to eastings and northings.
     pub shift: (i32, i32),
-    /// By how much areas on the grid differ from those on the ground.
+    /// By how much areas on the grid differ from those on the ellipsoid.
     pub differences: Option<Differences>,
     /// The day of making: a year, a month and a day of it.
     pub made: Option<(u64, u64, u64)>,

@@ -96,15 +96,15 @@ fn ground(
 }
 
 const ALL: &[u8] =
-    b"The grid is in metres. Areas on the grid differ from those on the ground by -0.08 to +1.20 % here. Dots are fixes; of \
+    b"The grid is in metres. Areas on the grid differ from those on the ellipsoid by -0.08 to +1.20 % here. Dots are fixes; of \
     those that would cover each other one is drawn. The boundary lies outside this map. Too small to be seen beside the others: 1, 2.";
 
 const NOTHING: &[u8] =
-    b"The grid is in metres. How areas on this grid differ from those on the ground is not known. Dots are fixes; of \
+    b"The grid is in metres. How areas on this grid differ from those on the ellipsoid is not known. Dots are fixes; of \
     those that would cover each other one is drawn.";
 
 const MANY: &[u8] =
-    b"The grid is in metres. Areas on the grid differ from those on the ground by 0.00 % here. Dots are fixes; of \
+    b"The grid is in metres. Areas on the grid differ from those on the ellipsoid by 0.00 % here. Dots are fixes; of \
     those that would cover each other one is drawn. Too small to be seen beside the others: 1, 2, 3, 4, 5, 6, 7, 8, 9, 10, 11, 12, \
     13, 14, 15, 16, 17, 18, 19, 20, ...";
 

@@ -1,8 +1,9 @@
 // Sentences on what was left out and said, options and checksums, as the makers in Python write them.
 
 use crate::cases::{
-    LEFT, NOTHING_LEFT, OPTIONS, SAID, SAID_OF_FOURTEEN, SAID_OF_NAMED, SUMS, SUMS_OF_DATA,
-    UNUSED_LEFT, VERIFY, WITHOUT_RANGE, WITHOUT_RANGE_OF_MANY,
+    LEFT, NOT_KNOWN, NOTHING_LEFT, OPTIONS, SAID, SAID_OF_FOURTEEN, SAID_OF_NAMED,
+    SAID_OF_THIRTEEN, SUMS, SUMS_OF_DATA, UNUSED_LEFT, VERIFY, WITHOUT_RANGE,
+    WITHOUT_RANGE_OF_MANY,
 };
 use page_record::read_record;
 use page_sections::{
@@ -31,7 +32,7 @@ fn lines(alloc: Global, texts: &[&str]) -> Result<Vec<Vec<u8>>, AllocError> {
 fn said(alloc: Global, texts: &[&str]) -> Result<Vec<u8>, AllocError> {
     let lines = lines(alloc, texts)?;
     let mut text = Vec::new(alloc);
-    push_said(&mut text, &lines)?;
+    push_said(alloc, &mut text, &lines)?;
     Ok(text)
 }
 
@@ -58,6 +59,23 @@ const NAMED: [&str; 2] = [
     "animal 'columns: a' is named columns_ a",
 ];
 
+// Lines on animals, and then others.
+const THIRTEEN: [&str; 13] = [
+    "1 records of a",
+    "2 records of b",
+    "line 0",
+    "line 1",
+    "line 2",
+    "line 3",
+    "line 4",
+    "line 5",
+    "line 6",
+    "line 7",
+    "line 8",
+    "line 9",
+    "line 10",
+];
+
 const FOURTEEN: [&str; 14] = [
     "line 0", "line 1", "line 2", "line 3", "line 4", "line 5", "line 6", "line 7", "line 8",
     "line 9", "line 10", "line 11", "line 12", "line 13",
@@ -71,8 +89,12 @@ fn lines_that_were_said_are_quoted(rt: HostRuntime) {
         "{SAID_OF_FOURTEEN}"
     );
     assert!(rt;
-        is_written(said(rt.alloc(), &SOME[..1]), ""),
-        "lines on animals are passed"
+        is_written(said(rt.alloc(), &SOME[1..3]), ""),
+        "lines on columns are passed"
+    );
+    assert!(rt;
+        is_written(said(rt.alloc(), &THIRTEEN), SAID_OF_THIRTEEN),
+        "{SAID_OF_THIRTEEN}"
     );
     assert!(rt;
         is_written(said(rt.alloc(), &NAMED), SAID_OF_NAMED),
@@ -80,15 +102,23 @@ fn lines_that_were_said_are_quoted(rt: HostRuntime) {
     );
 }
 
+// What is said of fixes of which some were chosen.
+const CHOSEN: [&str; 2] = [
+    "columns: a, b",
+    "the fixes are not as they were read: 3 of them were taken away since, and what was left out before is neither in the folder nor on its page",
+];
+
 // What was left out.
 fn left_out(
     alloc: Global,
     source: Source,
     records: u64,
     left: &[(Cause, u64)],
+    said: &[&str],
 ) -> Result<Vec<u8>, AllocError> {
     let mut text = Vec::new(alloc);
-    push_left_out(&mut text, source, &Totals { records, left })?;
+    let totals = Totals { records, left };
+    push_left_out(&mut text, source, Some(&totals), &lines(alloc, said)?)?;
     Ok(text)
 }
 
@@ -99,13 +129,15 @@ fn what_was_left_out_is_a_sentence(rt: HostRuntime) {
         (Cause::Made(Reason::Outlier), 3),
         (Cause::Made(Reason::Speed), 1_200),
     ];
-    let some = left_out(rt.alloc(), Source::Export, 12_345, &left);
+    let some = left_out(rt.alloc(), Source::Export, 12_345, &left, &CHOSEN);
     assert!(rt; is_written(some, LEFT), "{LEFT}");
     let unused = [(Cause::Use, 2)];
-    let some = left_out(rt.alloc(), Source::Data, 10, &unused);
+    let some = left_out(rt.alloc(), Source::Data, 10, &unused, &[]);
     assert!(rt; is_written(some, UNUSED_LEFT), "{UNUSED_LEFT}");
-    let none = left_out(rt.alloc(), Source::Data, 1, &[]);
+    let none = left_out(rt.alloc(), Source::Data, 1, &[], &NAMED);
     assert!(rt; is_written(none, NOTHING_LEFT), "{NOTHING_LEFT}");
+    let chosen = left_out(rt.alloc(), Source::Data, 1, &[], &CHOSEN);
+    assert!(rt; is_written(chosen, NOT_KNOWN), "{NOT_KNOWN}");
 }
 
 // Checksums, and how they are checked.

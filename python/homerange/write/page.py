@@ -74,8 +74,8 @@ def middle(corners: list[tuple[float, float]]) -> tuple[float, float]:
 
 
 def area_difference(ranges: HomeRanges) -> str | None:
-    """By how much areas on the grid differ from those on the ground, in per cent, at the least and at the most; None where it is not
-    known here. That of UTM is known to the program."""
+    """By how much areas on the grid differ from those on the ellipsoid, in per cent, at the least and at the most; None where it
+    is not known here. That of UTM is known to the program."""
     scales_at = None if ranges.crs is None or zone_of_crs(ranges.crs) else scales_of_crs(ranges.crs)
     if scales_at is None:
         return None

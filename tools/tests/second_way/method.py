@@ -1,5 +1,5 @@
 """The sentences of the page on how ranges were made: its method, what was left out, and how areas on the grid differ from
-those on the ground."""
+those on the ellipsoid."""
 
 from __future__ import annotations
 
@@ -22,16 +22,18 @@ PHRASES = {
     "hours": "at other hours", "every": "not the first in their interval", "use": "not in use, as the data said",
     "chosen": "not chosen"}
 MOST_SAID = 12
-NOT_SAID = re.compile(r"columns: |not read: |[0-9]+ records of |[0-9]+ fixes of [0-9]+ animals are in ")
+NOT_SAID = re.compile(r"columns: |not read: |[0-9]+ fixes of [0-9]+ animals are in ")
+OF_ANIMAL = re.compile("[0-9]+ records of ")  # what is said last
+CHOSEN = "the fixes are not as they were read: "
 SCALE, EARTH = 0.9996, 6_371_008.8  # of UTM in the middle of a zone, and the mean radius in metres
 SIDE = 10_000  # metres of a square whose area is compared
 RULE = (
     "Of n fixes, the polygon at p % has the p per cent of n, rounded up to whole fixes, that lie nearest to the arithmetic mean "
     "of all (of fixes as near, the earlier). Areas are those on the grid. Here they are rounded, halves up, to whole hectares, "
     "below 100 hectares to three digits, and below 1 hectare they are in square metres. The area of the 100 % polygon was "
-    "followed fix by fix (incremental area analysis, Harris et al. 1990): \u2018last quarter\u2019 is by how much it grew over "
-    "the last quarter of the fixes, as a share of the final area, and \u201895 % since\u2019 is the first fix from which on it "
-    "stayed at 95 % or more of the final one.")
+    "followed fix by fix (incremental area analysis, Harris et al. 1990). Here \u2018last quarter\u2019 is by how much it grew "
+    "over the last quarter of the fixes, as a share of the final area, and \u201895 % since\u2019 is the first fix from which on "
+    "it stayed at 95 % or more of the final one.")
 
 
 def records_of(split: Split | None) -> Counter[str]:
@@ -59,6 +61,8 @@ def left_out(animals: Sequence[Animal], split: Split | None) -> str:
             totals.update(animal.left)
     records = sum(records_of(split).values()) if split else sum(animal.records for animal in animals)
     source, gone = source_of(split), sum(totals.values())
+    if not gone and split and any(line.startswith(CHOSEN) for line in split.said):
+        return "How many fixes were left out is not known."
     if not gone:
         return f"No fix of the {source} was left out ({fixes(records)})."
     reasons = listed([f"{number(totals[reason])} {PHRASES[reason]}" for reason in REASONS if totals[reason]])
@@ -75,8 +79,9 @@ def options_of(split: Split | None) -> str:
 
 
 def said_of(split: Split | None) -> str:
-    """What was said when the fixes were read, but for lines on one animal and on files."""
+    """What was said when the fixes were read, but for lines on columns and on files; those on one animal come last."""
     own = [line for line in (split.said if split else ()) if not NOT_SAID.match(line)]
+    own.sort(key=lambda line: OF_ANIMAL.match(line) is not None)
     if not own:
         return ""
     texts = "; ".join(f"\u201c{text_of(line)}\u201d" for line in own[:MOST_SAID])
@@ -88,9 +93,9 @@ def said_of(split: Split | None) -> str:
 def method(animals: Sequence[Animal], run: Run, system: str) -> str:
     """How ranges were made, and what was left out."""
     percents = listed([f"{level} %" for level in sorted(run.levels, reverse=True)])
-    return (f"Home ranges are minimum convex polygons (MCP; Mohr 1947) of {percents} of the fixes, computed by {run.program} "
-            f"from coordinates in whole {UNITS[run.unit]}, {system}. {RULE} {left_out(animals, run.split)}{options_of(run.split)}"
-            f"{said_of(run.split)}")
+    return (f"Home ranges are minimum convex polygons (MCP) of {percents} of the fixes; that of all fixes is the one of Mohr (1947). "
+            f"They were computed by {run.program} from coordinates in whole {UNITS[run.unit]}, {system}. {RULE} "
+            f"{left_out(animals, run.split)}{options_of(run.split)}{said_of(run.split)}")
 
 
 def middles(animals: Sequence[Animal], run: Run) -> Iterator[list[float]]:
@@ -119,11 +124,11 @@ def scale_of_system(system: str, easting: float, northing: float) -> float:
 
 
 def ground(animals: Sequence[Animal], run: Run) -> str:
-    """By how much areas on the grid differ from those on the ground, in the middle of the highest polygons."""
+    """By how much areas on the grid differ from those on the ellipsoid, in the middle of the highest polygons."""
     if run.system is None:
-        return "How areas on this grid differ from those on the ground is not known."
+        return "How areas on this grid differ from those on the ellipsoid is not known."
     ends = [scale_of_zone(east) if run.zone else scale_of_system(run.system, east, north)
             for east, north in middles(animals, run)]
     least, most = (f"{100 * (end - 1):+.2f}" for end in (min(ends), max(ends)))
     text = " to ".join(dict.fromkeys("0.00" if end in ("+0.00", "-0.00") else end for end in (least, most)))
-    return f"Areas on the grid differ from those on the ground by {text} % here."
+    return f"Areas on the grid differ from those on the ellipsoid by {text} % here."

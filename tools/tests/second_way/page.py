@@ -74,6 +74,7 @@ class Wanted:
             "overlap": self.overlap_sentence(), "verify": (
                 "Sums are SHA-256. This checks the folder that is handed in, and says what held and what was not looked at, in "
                 f"a clone of homerange: python3 tools/verify.py FOLDER{' EXPORT' * (self.source == 'export')}"),
+            "tenth": " Decimetre: a tenth of a metre." if self.run.unit == "dm" else "",
             "method": method(self.animals, self.run, self.system()),
             "ground": f"The grid is in metres. {ground(self.animals, self.run)} {DRAWN}"}
 
