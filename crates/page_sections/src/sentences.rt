@@ -42,7 +42,7 @@ fn push_range(
     if u64::from(own.kept) < fixes {
         push_count(text, u64::from(own.kept))?;
         text.extend_from_slice(b" of ")?;
-    } else if own.level < ALL {
+    } else if own.level < ALL && fixes > 1 {
         text.extend_from_slice(b"all ")?;
     }
     push_fixes(text, fixes)

@@ -130,7 +130,7 @@ class Wanted:
         found = []
         for animal, name, area2 in zip(self.animals, self.names, areas):
             kept = animal.percents[level].kept
-            of = f"{shown.number(kept)} of " if kept < animal.used else "all " if level < 100 else ""
+            of = f"{shown.number(kept)} of " if kept < animal.used else "all " * (level < 100 and kept > 1)
             found.append(Block("li", "", blanked(
                 f"{name}: {level} % MCP {self.area(area2) if area2 else 'has no area'}, {of}{shown.fixes(animal.used)}, "
                 f"{self.clock.period(animal.first, animal.last)}{self.basis(animal).caveats(self.source)}")))
