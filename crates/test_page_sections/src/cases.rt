@@ -46,15 +46,12 @@ pub(crate) const TWO: Case = Case {
     r></thead>\n<tbody>\n<tr><td class=\"c0 n\">1</td><th><bdi>fox</bdi></th><td>–</td><td data-animal=\"fox\" dat\
     a-other=\"owl\">0</td></tr>\n<tr><td class=\"c1 n\">2</td><th><bdi>owl</bdi></th><td data-animal=\"owl\" data-\
     other=\"fox\">2 (67 %)</td><td>–</td></tr>\n</tbody></table>",
-    method: "Home ranges are minimum convex polygons (MCP) of 100 % and 50 % of the fixes; that of all fixes i\
-    s the one of Mohr (1947). They were computed by homerange 1.0.0 from coordinates in whole metres, EPSG:32633 (\
-    WGS 84 / UTM zone 33N). Of n fixes, the polygon at p % has the p per cent of n, rounded up to whole fixes, tha\
-    t lie nearest to the arithmetic mean of all (of fixes as near, the earlier). Areas are those on the grid. Her\
-    e they are rounded, halves up, to whole hectares, below 100 hectares to three digits, and below 1 hectare the\
-    y are in square metres. The area of the 100 % polygon was followed fix by fix (incremental area analysis, Harr\
-    is et al. 1990). Here &#8216;last quarter&#8217; is by how much it grew over the last quarter of the fixes, a\
-    s a share of the final area, and &#8216;95 % since&#8217; is the first fix from which on it stayed at 95 % or \
-    more of the final one.",
+    method: "Home ranges are minimum convex polygons (MCP) of 100 % and 50 % of the fixes; that of all fixes is the \
+    one of Mohr (1947). They were computed by homerange 1.0.0 from coordinates in whole metres, EPSG:32633 (WGS 84 / \
+    UTM zone 33N). Of n fixes, the polygon at p % has the p per cent of n, rounded up to whole fixes, that lie neare\
+    st to the arithmetic mean of all (of fixes as near, the earlier). Areas are those on the grid. Here they are rou\
+    nded, halves up, to whole hectares, below 100 hectares to three digits, and below 1 hectare they are in square m\
+    etres. The area of the 100 % polygon was followed fix by fix (incremental area analysis, Harris et al. 1990).",
 };
 
 pub(crate) const NAMES: Case = Case {
@@ -94,15 +91,12 @@ pub(crate) const NAMES: Case = Case {
     1+1\">1 (33 %)</td><td>–</td><td data-animal=\"&#x27;o b\" data-other=\"@x\">0</td></tr>\n<tr><td class=\"c2 n\
     \">3</td><th><bdi>@x</bdi></th><td data-animal=\"@x\" data-other=\"=1+1\">0</td><td data-animal=\"@x\" data-ot\
     her=\"&#x27;o b\">0</td><td>–</td></tr>\n</tbody></table>",
-    method: "Home ranges are minimum convex polygons (MCP) of 100 % of the fixes; that of all fixes is the on\
-    e of Mohr (1947). They were computed by homerange 1.0.0 from coordinates in whole metres, EPSG:32633 (WGS 84 \
-    / UTM zone 33N). Of n fixes, the polygon at p % has the p per cent of n, rounded up to whole fixes, that lie n\
-    earest to the arithmetic mean of all (of fixes as near, the earlier). Areas are those on the grid. Here they a\
-    re rounded, halves up, to whole hectares, below 100 hectares to three digits, and below 1 hectare they are in \
-    square metres. The area of the 100 % polygon was followed fix by fix (incremental area analysis, Harris et al\
-    . 1990). Here &#8216;last quarter&#8217; is by how much it grew over the last quarter of the fixes, as a shar\
-    e of the final area, and &#8216;95 % since&#8217; is the first fix from which on it stayed at 95 % or more of \
-    the final one.",
+    method: "Home ranges are minimum convex polygons (MCP) of 100 % of the fixes; that of all fixes is the one of M\
+    ohr (1947). They were computed by homerange 1.0.0 from coordinates in whole metres, EPSG:32633 (WGS 84 / UTM zon\
+    e 33N). Of n fixes, the polygon at p % has the p per cent of n, rounded up to whole fixes, that lie nearest to t\
+    he arithmetic mean of all (of fixes as near, the earlier). Areas are those on the grid. Here they are rounded, h\
+    alves up, to whole hectares, below 100 hectares to three digits, and below 1 hectare they are in square metres. \
+    The area of the 100 % polygon was followed fix by fix (incremental area analysis, Harris et al. 1990).",
 };
 
 pub(crate) const DECIMETRES: Case = Case {
@@ -152,15 +146,13 @@ pub(crate) const DECIMETRES: Case = Case {
     </td><td>–</td><td data-animal=\"owl\" data-other=\"cat\">1 (6 %)</td></tr>\n<tr><td class=\"c2 n\">3</td><th>\
     <bdi>cat</bdi></th><td data-animal=\"cat\" data-other=\"fox\">2 (50 %)</td><td data-animal=\"cat\" data-other=\
     \"owl\">1 (25 %)</td><td>–</td></tr>\n</tbody></table>",
-    method: "Home ranges are minimum convex polygons (MCP) of 100 %, 95 % and 50 % of the fixes; that of all f\
-    ixes is the one of Mohr (1947). They were computed by homerange 1.0.0 from coordinates in whole decimetres, EP\
-    SG:32633 (WGS 84 / UTM zone 33N). Of n fixes, the polygon at p % has the p per cent of n, rounded up to whole \
-    fixes, that lie nearest to the arithmetic mean of all (of fixes as near, the earlier). Areas are those on the \
-    grid. Here they are rounded, halves up, to whole hectares, below 100 hectares to three digits, and below 1 hec\
-    tare they are in square metres. The area of the 100 % polygon was followed fix by fix (incremental area analys\
-    is, Harris et al. 1990). Here &#8216;last quarter&#8217; is by how much it grew over the last quarter of the f\
-    ixes, as a share of the final area, and &#8216;95 % since&#8217; is the first fix from which on it stayed at 9\
-    5 % or more of the final one.",
+    method: "Home ranges are minimum convex polygons (MCP) of 100 %, 95 % and 50 % of the fixes; that of all fixes \
+    is the one of Mohr (1947). They were computed by homerange 1.0.0 from coordinates in whole decimetres, EPSG:3263\
+    3 (WGS 84 / UTM zone 33N). Of n fixes, the polygon at p % has the p per cent of n, rounded up to whole fixes, th\
+    at lie nearest to the arithmetic mean of all (of fixes as near, the earlier). Areas are those on the grid. Here \
+    they are rounded, halves up, to whole hectares, below 100 hectares to three digits, and below 1 hectare they are \
+    in square metres. The area of the 100 % polygon was followed fix by fix (incremental area analysis, Harris et al\
+    . 1990).",
 };
 
 pub(crate) const SECONDS: Case = Case {
@@ -191,15 +183,12 @@ pub(crate) const SECONDS: Case = Case {
     r></thead>\n<tbody>\n<tr><td class=\"c0 n\">1</td><th><bdi>fox</bdi></th><td>–</td><td data-animal=\"fox\" dat\
     a-other=\"owl\">1 (25 %)</td></tr>\n<tr><td class=\"c1 n\">2</td><th><bdi>owl</bdi></th><td data-animal=\"owl\
     \" data-other=\"fox\">1 (33 %)</td><td>–</td></tr>\n</tbody></table>",
-    method: "Home ranges are minimum convex polygons (MCP) of 100 % of the fixes; that of all fixes is the on\
-    e of Mohr (1947). They were computed by homerange 1.0.0 from coordinates in whole metres, EPSG:32633 (WGS 84 \
-    / UTM zone 33N). Of n fixes, the polygon at p % has the p per cent of n, rounded up to whole fixes, that lie n\
-    earest to the arithmetic mean of all (of fixes as near, the earlier). Areas are those on the grid. Here they a\
-    re rounded, halves up, to whole hectares, below 100 hectares to three digits, and below 1 hectare they are in \
-    square metres. The area of the 100 % polygon was followed fix by fix (incremental area analysis, Harris et al\
-    . 1990). Here &#8216;last quarter&#8217; is by how much it grew over the last quarter of the fixes, as a shar\
-    e of the final area, and &#8216;95 % since&#8217; is the first fix from which on it stayed at 95 % or more of \
-    the final one.",
+    method: "Home ranges are minimum convex polygons (MCP) of 100 % of the fixes; that of all fixes is the one of M\
+    ohr (1947). They were computed by homerange 1.0.0 from coordinates in whole metres, EPSG:32633 (WGS 84 / UTM zon\
+    e 33N). Of n fixes, the polygon at p % has the p per cent of n, rounded up to whole fixes, that lie nearest to t\
+    he arithmetic mean of all (of fixes as near, the earlier). Areas are those on the grid. Here they are rounded, h\
+    alves up, to whole hectares, below 100 hectares to three digits, and below 1 hectare they are in square metres. \
+    The area of the 100 % polygon was followed fix by fix (incremental area analysis, Harris et al. 1990).",
 };
 
 pub(crate) const MANY_LEVELS: Case = Case {
@@ -229,15 +218,13 @@ pub(crate) const MANY_LEVELS: Case = Case {
     a-field=\"hectares_100\">5,666 m²</td></tr>\n</tbody></table>",
     overlap: "There is one animal, and so no overlap.",
     overlaps: "",
-    method: "Home ranges are minimum convex polygons (MCP) of 100 %, 95 %, 60 %, 50 %, 40 %, 30 %, 20 % and 1\
-    0 % of the fixes; that of all fixes is the one of Mohr (1947). They were computed by homerange 1.0.0 from coor\
-    dinates in whole metres, EPSG:32633 (WGS 84 / UTM zone 33N). Of n fixes, the polygon at p % has the p per cen\
-    t of n, rounded up to whole fixes, that lie nearest to the arithmetic mean of all (of fixes as near, the earli\
-    er). Areas are those on the grid. Here they are rounded, halves up, to whole hectares, below 100 hectares to t\
-    hree digits, and below 1 hectare they are in square metres. The area of the 100 % polygon was followed fix by \
-    fix (incremental area analysis, Harris et al. 1990). Here &#8216;last quarter&#8217; is by how much it grew ov\
-    er the last quarter of the fixes, as a share of the final area, and &#8216;95 % since&#8217; is the first fix \
-    from which on it stayed at 95 % or more of the final one.",
+    method: "Home ranges are minimum convex polygons (MCP) of 100 %, 95 %, 60 %, 50 %, 40 %, 30 %, 20 % and 10 % of \
+    the fixes; that of all fixes is the one of Mohr (1947). They were computed by homerange 1.0.0 from coordinates i\
+    n whole metres, EPSG:32633 (WGS 84 / UTM zone 33N). Of n fixes, the polygon at p % has the p per cent of n, roun\
+    ded up to whole fixes, that lie nearest to the arithmetic mean of all (of fixes as near, the earlier). Areas are \
+    those on the grid. Here they are rounded, halves up, to whole hectares, below 100 hectares to three digits, and \
+    below 1 hectare they are in square metres. The area of the 100 % polygon was followed fix by fix (incremental ar\
+    ea analysis, Harris et al. 1990).",
 };
 
 // Of thirteen animals, of which those with even numbers lie at one place.
@@ -301,8 +288,8 @@ pub(crate) const PAIRS_OF_FORTY_ONE: &str =
     re.</p>\n";
 
 pub(crate) const SAID: &str =
-    " When the fixes were read this was said: “zone: 33N”; “&lt;odd&gt; \\u202e line”; “3 records of fox come before an earlier \
-    one: sorted by time”.";
+    " When the fixes were read this was said: “columns: a, b”; “zone: 33N”; “&lt;odd&gt; \\u202e line”; “3 records of fox \
+    come before an earlier one: sorted by time”.";
 
 pub(crate) const SAID_OF_FOURTEEN: &str =
     " When the fixes were read this was said: “line 0”; “line 1”; “line 2”; “line 3”; “line 4”; “line 5”; “line 6”\
@@ -314,7 +301,7 @@ pub(crate) const SAID_OF_THIRTEEN: &str =
 
 pub(crate) const SAID_OF_NAMED: &str =
     " When the fixes were read this was said: “2 of 9 fixes of records of fox lie 60 km from the others”; “animal &#\
-    x27;columns: a&#x27; is named columns_ a”.";
+    x27;not read: a&#x27; is named not read_ a”.";
 
 pub(crate) const LEFT: &str =
     "Of 12,345 fixes of the export 1,203 were left out: 3 marked as outliers and 1,200 faster than the limit.";
