@@ -52,8 +52,8 @@ def test_each_cell_of_an_animal(page):
             "places": str(len({*points})), "repeats": "0", "clashes": "0", "gap": "1 Mar 2024" if len(points) > 1 else DASH}
         # What else the areas rest on tools/tests/second_way computes.
         assert {field: cells[field] for field in wanted} == wanted
-        assert {*cells} - {*wanted} == {"quoted_days", "quoted_fixes", "quoted_since", "last_days", "since_day", "one_fix",
-                                        "one_fix_share", "half_days", "step", "step_date"}
+        assert {*cells} - {*wanted} == {"quoted_days", "quoted_fixes", "quoted_since", "last_days", "one_fix", "one_fix_share",
+                                        "half_days", "step", "step_date"}
 
 
 def test_each_cell_of_overlaps(page):

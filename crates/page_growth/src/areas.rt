@@ -47,8 +47,8 @@ impl<'a> Prefixes<'a> {
         }
     }
 
-    /// How many fixes there are before a second.
-    pub(crate) fn count_before(&self, second: u64) -> usize {
-        self.rows.iter().filter(|row| row.second < second).count()
+    /// How many fixes there are up to a second.
+    pub(crate) fn count_up_to(&self, second: u64) -> usize {
+        self.rows.iter().filter(|row| row.second <= second).count()
     }
 }

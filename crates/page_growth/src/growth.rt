@@ -1,8 +1,7 @@
 // How the area at a level grew.
 
 use crate::areas::Prefixes;
-use crate::since::{Since, first_period};
-use page_sampling::PERIOD;
+use crate::since::since_when;
 use range_estimator::Row;
 use range_plane::{OutOfMemory, Point};
 use std::alloc::Global;
@@ -17,15 +16,16 @@ pub struct LevelGrowth {
     pub by_fixes: u128,
     /// Of the fixes of the first three quarters of the time.
     pub by_days: u128,
-    /// From which day on it stayed; none where there is no area.
-    pub since: Option<Since>,
+    /// From when on it stayed at 95 per cent or more of that of all: the end of one of the parts of the time. None where there is
+    /// no area.
+    pub since: Option<u64>,
 }
 
-// The second behind the first three quarters of the time, which such a fix may have.
-fn behind_three_quarters(first: u64, last: u64) -> u64 {
+// The second with which the first three quarters of the time end.
+fn end_of_three_quarters(first: u64, last: u64) -> u64 {
     let span = u128::from(last.saturating_sub(first));
-    let three_quarters = u64::try_from(span.saturating_mul(3) / 4).unwrap_or(u64::MAX);
-    first.saturating_add(three_quarters).saturating_add(1)
+    let passed = u64::try_from(span.saturating_mul(3) / 4).unwrap_or(0);
+    first.saturating_add(passed)
 }
 
 // How many of so many fixes the first three quarters are.
@@ -34,15 +34,11 @@ fn three_quarters(fixes: usize) -> usize {
     usize::try_from(fixes.saturating_mul(3) / 4).unwrap_or(0)
 }
 
-// How many periods of 24 hours there are from a second to another.
-fn periods_between(first: u64, last: u64) -> u64 {
-    (last.saturating_sub(first) / PERIOD).saturating_add(1)
-}
-
 /// How the area at a level grew, of fixes of which each has its row; rows are in the order of their seconds. `None` where there is
 /// no fix.
 ///
-/// It makes the polygon of the first fixes anew for two parts of them, and for the end of each day that is looked at.
+/// It makes the polygon of the first fixes anew for three quarters of the time and of the fixes, and for the end of each part of the
+/// time.
 ///
 /// # Errors
 ///
@@ -58,13 +54,12 @@ pub fn growth_at(
     };
     let prefixes = Prefixes { rows, fixes, level };
     let area2 = prefixes.area_of_first(alloc, rows.len())?;
-    let before = prefixes.count_before(behind_three_quarters(first.second, last.second));
-    let periods = periods_between(first.second, last.second);
+    let before = prefixes.count_up_to(end_of_three_quarters(first.second, last.second));
     Ok(Some(LevelGrowth {
         level,
         area2,
         by_fixes: prefixes.area_of_first(alloc, three_quarters(rows.len()))?,
         by_days: prefixes.area_of_first(alloc, before)?,
-        since: first_period(alloc, &prefixes, first.second, periods, area2)?,
+        since: since_when(alloc, &prefixes, first.second, last.second, area2)?,
     }))
 }

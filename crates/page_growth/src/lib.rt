@@ -1,4 +1,4 @@
-//! How the area at a level grew with the days and with the fixes: over the last quarter of each, and from which day on it stayed.
+//! How the area at a level grew with the days and with the fixes: over the last quarter of each, and from when on it stayed.
 #![tactic(auto)]
 
 mod areas;
@@ -6,4 +6,4 @@ mod growth;
 mod since;
 
 pub use growth::{LevelGrowth, growth_at};
-pub use since::{MOST_PERIODS, Since};
+pub use since::PARTS;

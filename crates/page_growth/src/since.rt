@@ -1,61 +1,54 @@
-// From which day on an area stayed near the last one.
+// From when on an area stayed near the last one.
 
 use crate::areas::Prefixes;
-use page_sampling::PERIOD;
 use range_plane::OutOfMemory;
 use std::alloc::Global;
 
-/// How many periods of 24 hours before the last one are looked at.
-pub const MOST_PERIODS: u64 = 64;
-
-/// The first period of 24 hours, counted from 1 on from the first fix, such that at its end and at that of each later one the area
-/// was 95 per cent or more of the final one.
-#[derive(Clone, Copy, PartialEq, Eq, Debug)]
-pub enum Since {
-    Period(u64),
-    /// It is this one or an earlier one.
-    Before(u64),
-}
+/// In how many equal parts of the time the area is looked at.
+pub const PARTS: u64 = 20;
 
 // Whether an area is 95 per cent or more of the last one.
 fn is_within(last: u128, area2: u128) -> bool {
     last.saturating_sub(last / 20) <= area2
 }
 
-// Whether the area at the end of a period is 95 per cent or more of the last one. Periods begin at this second.
+// The second with which so many parts of the time from a second to another end.
+pub(crate) fn end_of_part(first: u64, last: u64, part: u64) -> u64 {
+    let span = u128::from(last.saturating_sub(first));
+    let passed = span.saturating_mul(u128::from(part)) / u128::from(PARTS);
+    first.saturating_add(u64::try_from(passed).unwrap_or(0))
+}
+
+// Whether the area of the fixes up to a second is 95 per cent or more of the last one.
 fn holds_at(
     alloc: Global,
     prefixes: &Prefixes,
-    first: u64,
-    period: u64,
-    last: u128,
+    second: u64,
+    area2: u128,
 ) -> Result<bool, OutOfMemory> {
-    let end = first.saturating_add(period.saturating_mul(PERIOD));
-    let count = prefixes.count_before(end);
-    Ok(is_within(last, prefixes.area_of_first(alloc, count)?))
+    let count = prefixes.count_up_to(second);
+    Ok(is_within(area2, prefixes.area_of_first(alloc, count)?))
 }
 
-/// From which of so many periods on the area stayed, whose first begins at this second. `None` where there is no area.
-pub(crate) fn first_period(
+/// The end of the first of the parts of the time from a second to another, such that at its end and at that of each later one the
+/// area was 95 per cent or more of the final one, which is this. `None` where there is no area.
+pub(crate) fn since_when(
     alloc: Global,
     prefixes: &Prefixes,
     first: u64,
-    periods: u64,
-    last: u128,
-) -> Result<Option<Since>, OutOfMemory> {
-    if last == 0 {
+    last: u64,
+    area2: u128,
+) -> Result<Option<u64>, OutOfMemory> {
+    if area2 == 0 {
         return Ok(None);
     }
-    let mut period = periods;
-    for _looked in 0..MOST_PERIODS {
-        let earlier = period.saturating_sub(1);
-        if earlier == 0 || !holds_at(alloc, prefixes, first, earlier, last)? {
-            return Ok(Some(Since::Period(period)));
+    let mut since = last;
+    for later in 1..PARTS {
+        let end = end_of_part(first, last, PARTS - later);
+        if !holds_at(alloc, prefixes, end, area2)? {
+            break;
         }
-        period = earlier;
+        since = end;
     }
-    if period <= 1 {
-        return Ok(Some(Since::Period(period)));
-    }
-    Ok(Some(Since::Before(period)))
+    Ok(Some(since))
 }

@@ -3,12 +3,15 @@
 use crate::page::Page;
 use crate::template::{BEFORE_HEADING, BEFORE_MADE, BEFORE_PERIOD, BEFORE_TITLE, BEFORE_TYPED};
 use crate::words::Words;
-use page_dates::{push_day, push_period};
+use page_dates::{date_of_day, push_day, push_period};
 use page_report::ReadAnimal;
 use page_sections::Shown;
 use page_tables::Told;
 use page_text::{between, push_escaped, push_named, push_whole};
 use std::alloc::AllocError;
+
+// The seconds of a day.
+const DAY: u128 = 86_400;
 
 // How many animals have their names in the heading.
 const MOST_NAMED: usize = 3;
@@ -90,7 +93,31 @@ fn push_made(text: &mut Vec<u8>, page: &Page) -> Result<(), AllocError> {
     }
     text.extend_from_slice(b"with ")?;
     push_escaped(text, page.made.version)?;
-    text.extend_from_slice(b".")
+    text.extend_from_slice(b".")?;
+    push_later(text, page)
+}
+
+// The day of a second by the clock of a page, if it is one of a calendar.
+fn day_of(shown: &Shown, second: u64) -> Option<(u64, u64, u64)> {
+    let local = shown.clock.local_second(second);
+    if shown.dated && local >= 0 {
+        date_of_day(local.unsigned_abs() / DAY)
+    } else {
+        None
+    }
+}
+
+// Appends that fixes are later than the day of making, if the last one is.
+fn push_later(text: &mut Vec<u8>, page: &Page) -> Result<(), AllocError> {
+    let Some((_first, last)) = seconds_of_all(page.shown.told) else {
+        return Ok(());
+    };
+    match (page.made.day, day_of(&page.shown, last)) {
+        (Some(made), Some(day)) if made < day => {
+            text.extend_from_slice(b" Fixes are later than that day.")
+        }
+        _ => Ok(()),
+    }
 }
 
 // Appends the head of the page.

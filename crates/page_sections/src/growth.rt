@@ -1,5 +1,5 @@
-// The table of how areas grew: over the last quarter of the days and of the fixes, from which day on they stayed, and the fix that
-// makes the most of each.
+// The table of how areas grew: over the last quarter of the days and of the fixes, from when on they stayed, and the fix that makes
+// the most of each.
 
 use crate::animals::push_begin;
 use crate::cells::{NOTHING, push_count, push_count_cell, push_date_cell, push_end, push_start};
@@ -7,8 +7,7 @@ use crate::headings::ANIMAL;
 use crate::shown::{Shown, area};
 use page_basis::{Basis, OneFix, quoted_level};
 use page_facts::Facts;
-use page_growth::{LevelGrowth, Since};
-use page_sampling::Sampling;
+use page_growth::LevelGrowth;
 use page_text::push_share_of_area;
 use std::alloc::AllocError;
 
@@ -18,9 +17,9 @@ const ALL: u8 = 100;
 // What stands below the table.
 const WORDS: &[u8] =
     b"<p class=\"note\">Last quarter: by how much the area grew over the last quarter of the time or of the fixes, as a share \
-    of the final area, less than nothing where it fell. Since: the first day, or the first fix, from which on the area was 95 % or more \
-    of the final one; days are periods of 24 hours from the first fix on. One fix: the one without which the 100 % polygon is smallest, \
-    and the share of its area that this fix makes.</p>\n";
+    of the final area, less than nothing where it fell. Since: the first fix from which on the area was 95 % or more of the final \
+    one; of percent polygons the end of the first of twenty equal parts of the time, such that it was so at its end and at that of each \
+    later one. One fix: the one without which the 100 % polygon is smallest, and the share of its area that this fix makes.</p>\n";
 
 // Appends by how much an area that is this at the end grew from another, as a share of it.
 fn push_change(text: &mut Vec<u8>, before: u128, last: u128) -> Result<(), AllocError> {
@@ -49,52 +48,20 @@ fn push_nothing(text: &mut Vec<u8>, field: &[u8]) -> Result<(), AllocError> {
     push_end(text)
 }
 
-// How many days there are from the first fix to the last.
-fn days_of(sampling: &Sampling) -> u64 {
-    match sampling.periods {
-        Some(periods) => periods.all,
-        None => 0,
-    }
-}
-
-// Appends the cell of the day from which on an area stayed, of so many.
-fn push_since_cell(
-    text: &mut Vec<u8>,
-    field: &[u8],
-    since: Since,
-    days: u64,
-) -> Result<(), AllocError> {
-    push_start(text, field)?;
-    let day = match since {
-        Since::Period(day) => day,
-        Since::Before(day) => {
-            text.extend_from_slice(b"\xE2\x89\xA4 ")?;
-            day
-        }
-    };
-    push_count(text, day)?;
-    text.extend_from_slice(b" of ")?;
-    push_count(text, days)?;
-    push_end(text)
-}
-
 // The names of the cells of a level.
 struct Fields {
     days: &'static [u8],
     fixes: &'static [u8],
-    since: &'static [u8],
 }
 
 const QUOTED: Fields = Fields {
     days: b"quoted_days",
     fixes: b"quoted_fixes",
-    since: b"quoted_since",
 };
 
 const OF_ALL: Fields = Fields {
     days: b"last_days",
     fixes: b"last_quarter",
-    since: b"since_day",
 };
 
 // Appends the cells of how the area at a level grew, if it is known.
@@ -102,19 +69,24 @@ fn push_level(
     text: &mut Vec<u8>,
     fields: &Fields,
     growth: Option<LevelGrowth>,
-    days: u64,
 ) -> Result<(), AllocError> {
     let Some(growth) = growth else {
         push_nothing(text, fields.days)?;
-        push_nothing(text, fields.fixes)?;
-        return push_nothing(text, fields.since);
+        return push_nothing(text, fields.fixes);
     };
     push_change_cell(text, fields.days, growth.by_days, growth.area2)?;
-    push_change_cell(text, fields.fixes, growth.by_fixes, growth.area2)?;
-    match growth.since {
-        Some(since) => push_since_cell(text, fields.since, since, days),
-        None => push_nothing(text, fields.since),
-    }
+    push_change_cell(text, fields.fixes, growth.by_fixes, growth.area2)
+}
+
+// Appends the cells of how the area at the level that is quoted grew, if it is known.
+fn push_quoted(
+    text: &mut Vec<u8>,
+    shown: &Shown,
+    growth: Option<LevelGrowth>,
+) -> Result<(), AllocError> {
+    push_level(text, &QUOTED, growth)?;
+    let since = growth.and_then(|own| own.since);
+    push_date_cell(text, b"quoted_since", shown, since)
 }
 
 // Appends the cells of the fix from which on the area of all fixes stayed.
@@ -151,11 +123,10 @@ fn push_cells(
     basis: &Basis,
     has_quoted: bool,
 ) -> Result<(), AllocError> {
-    let days = days_of(&basis.sampling);
     if has_quoted {
-        push_level(text, &QUOTED, basis.quoted, days)?;
+        push_quoted(text, shown, basis.quoted)?;
     }
-    push_level(text, &OF_ALL, basis.all, days)?;
+    push_level(text, &OF_ALL, basis.all)?;
     push_within(text, shown, facts)?;
     push_one_fix(text, shown, basis.one_fix, facts.growth.area2)
 }
@@ -178,7 +149,7 @@ fn push_headings(text: &mut Vec<u8>, level: u8) -> Result<(), AllocError> {
     if level < ALL {
         push_level_heading(text, level, 3)?;
     }
-    push_level_heading(text, ALL, 5)?;
+    push_level_heading(text, ALL, 4)?;
     text.extend_from_slice(b"<th colspan=\"2\">One fix</th></tr>\n<tr>")?;
     if level < ALL {
         text.extend_from_slice(LAST)?;

@@ -3,7 +3,7 @@
 use crate::cases::TWO;
 use crate::sections::told_of;
 use page_basis::{Basis, OneFix};
-use page_growth::{LevelGrowth, Since};
+use page_growth::LevelGrowth;
 use page_report::read_report;
 use page_sampling::{Gap, Periods, Places, Sampling, Step};
 use page_sections::{Shown, Source, push_growth_table, push_sampling_table, push_sentences};
@@ -38,7 +38,7 @@ const OF_FOX: Basis = Basis {
         area2: 240_000,
         by_fixes: 120_000,
         by_days: 300_000,
-        since: Some(Since::Period(9)),
+        since: Some(1_700_003_600),
     }),
     one_fix: Some(OneFix {
         second: 1_700_007_200,
@@ -64,18 +64,17 @@ const OF_OWL: Basis = Basis {
         area2: 1_000,
         by_fixes: 0,
         by_days: 1_000,
-        since: Some(Since::Before(26)),
+        since: None,
     }),
     one_fix: None,
 };
 
 // Parts of the sentences and of both tables.
-const PARTS: [&str; 8] = [
+const PARTS: [&str; 7] = [
     "14 to 15 Nov 2023; over the last quarter of the days it fell by 25.0 %; one fix (15 Nov 2023) makes 16.7 % of the 100 % MCP</li>",
     "14 Nov 2023; over the last quarter of the days it grew by 0.0 %</li>",
-    "<td data-field=\"last_days\">−25.0 %</td><td data-field=\"last_quarter\">50.0 %</td><td data-field=\"since_day\">9 of 1,234</td>",
+    "<td data-field=\"last_days\">−25.0 %</td><td data-field=\"last_quarter\">50.0 %</td><td data-field=\"within_95_fix\">4</td>",
     "<td data-field=\"one_fix\">15 Nov 2023</td><td data-field=\"one_fix_share\">16.7 %</td></tr>",
-    "<td data-field=\"since_day\">≤ 26 of 90</td>",
     "<td data-field=\"places\">3</td><td data-field=\"repeats\">1</td><td data-field=\"clashes\">0</td><td data-field=\"half_days\">\
     2 of 1,234</td><td data-field=\"gap\">14 to 16 Nov 2023</td><td data-field=\"step\">1.00 km in 60 min</td><td data-field=\"step_\
     date\">15 Nov 2023</td></tr>",

@@ -3,7 +3,7 @@ the fixes alone, each polygon of some of them made anew."""
 
 from __future__ import annotations
 
-from bisect import bisect_left
+from bisect import bisect_right
 from collections import Counter
 from fractions import Fraction
 from math import isqrt
@@ -14,7 +14,7 @@ from .facts import PER_METRE, Animal
 
 Point = tuple[int, int]
 DAY = 86_400
-MOST_DAYS, MOST_CORNERS = 64, 256  # days before the last that are looked at, and corners of polygons whose one fix is looked for
+PARTS, MOST_CORNERS = 20, 256  # parts of the time whose ends are looked at, and corners of polygons whose one fix is looked for
 
 
 def side(points: Iterable[Point]) -> list[Point]:
@@ -60,27 +60,22 @@ class Basis:
 
     def before(self, level: int) -> tuple[int, int]:
         """The area of the fixes of the first three quarters of the time, and of the first three quarters of the fixes."""
-        end = self.animal.first + 3 * (self.animal.last - self.animal.first) // 4 + 1
-        return self.area_of_first(bisect_left(self.seconds, end), level), self.area_of_first(3 * len(self.points) // 4, level)
+        end = self.animal.first + 3 * (self.animal.last - self.animal.first) // 4
+        return self.area_of_first(bisect_right(self.seconds, end), level), self.area_of_first(3 * len(self.points) // 4, level)
 
-    def is_near(self, day: int, level: int, last: int) -> bool:
-        """Whether the area at the end of a day is 95 per cent or more of the last one."""
-        end = self.animal.first + day * DAY
-        return 100 * self.area_of_first(bisect_left(self.seconds, end), level) >= 95 * last
-
-    def since(self, level: int, last: int) -> str:
-        """The first day from which on the area stayed, as far as days are looked at."""
+    def since(self, last: int) -> str:
+        """The date of the end of the first of equal parts of the time from which on the area stayed."""
         if not last:
             return shown.NOTHING
-        first = max(1, self.days - MOST_DAYS)
-        day = next((day + 1 for day in range(self.days - 1, first - 1, -1) if not self.is_near(day, level, last)), first)
-        sign = "\u2264 " if day == first > 1 else ""
-        return f"{sign}{shown.number(day)} of {shown.number(self.days)}"
+        first, span = self.animal.first, self.animal.last - self.animal.first
+        ends = [first + span * part // PARTS for part in range(1, PARTS + 1)]
+        near = [100 * self.area_of_first(bisect_right(self.seconds, end), self.level) >= 95 * last for end in ends]
+        return self.clock.date(next(end for part, end in enumerate(ends) if all(near[part:])))
 
     def grown(self, level: int, names: Sequence[str]) -> Iterator[tuple[str, str]]:
         """The cells of how the area at a level grew."""
         last = self.area_of_first(len(self.points), level)
-        yield from zip(names, [*(change(before, last) for before in self.before(level)), self.since(level, last)])
+        yield from zip(names, [*(change(before, last) for before in self.before(level)), *[self.since(last)] * (level < 100)])
 
     def one_fix(self) -> tuple[int, int] | None:
         """The number of the fix without which the polygon of all others is least, of several the first, and the area of that."""
@@ -97,7 +92,7 @@ class Basis:
         has_one = one and self.animal.area2
         return {
             **dict(self.grown(self.level, ("quoted_days", "quoted_fixes", "quoted_since")) if self.level < 100 else ()),
-            **dict(self.grown(100, ("last_days", "last_quarter", "since_day"))),
+            **dict(self.grown(100, ("last_days", "last_quarter"))),
             "within_95_fix": shown.number(within) if within else shown.NOTHING,
             "within_95_date": self.clock.date(self.seconds[within - 1]) if within else shown.NOTHING,
             "one_fix": self.clock.date(self.seconds[one[0]]) if one and has_one else shown.NOTHING,

@@ -42,9 +42,9 @@ HEADINGS = {
 
 GROWTH = (
     "Last quarter: by how much the area grew over the last quarter of the time or of the fixes, as a share of the final area, less "
-    "than nothing where it fell. Since: the first day, or the first fix, from which on the area was 95 % or more of the final one; "
-    "days are periods of 24 hours from the first fix on. One fix: the one without which the 100 % polygon is smallest, and the share "
-    "of its area that this fix makes.")
+    "than nothing where it fell. Since: the first fix from which on the area was 95 % or more of the final one; of percent polygons "
+    "the end of the first of twenty equal parts of the time, such that it was so at its end and at that of each later one. One fix: "
+    "the one without which the 100 % polygon is smallest, and the share of its area that this fix makes.")
 SAMPLING = (
     "Places: how many different ones the fixes have. There twice: fixes with the second and the place of one before them. Two places "
     "at once: how many places more than one there are at one second, of all seconds. Half of the fixes: in how few days they are, of "
@@ -70,7 +70,7 @@ class Wanted:
         by = f"dates of {self.clock.zone}" if self.clock.is_calendar else "counted from the start that the files have"
         return {
             "title": self.title(), "heading": self.title(), "typed": self.typed(), "notes": self.notes(), "key": self.key(),
-            "period": f"{self.clock.period(first, last)} ({by})", "made": f"Made on {self.day()} with {self.run.program}.",
+            "period": f"{self.clock.period(first, last)} ({by})", "made": f"Made on {self.day()} with {self.run.program}.{self.later(last)}",
             "overlap": self.overlap_sentence(), "verify": (
                 "Sums are SHA-256. This checks the folder that is handed in, and says what held and what was not looked at, in "
                 f"a clone of homerange: python3 tools/verify.py FOLDER{' EXPORT' * (self.source == 'export')}"),
@@ -88,9 +88,17 @@ class Wanted:
         return " ".join(f"{name}: {text}" for name, text in texts if text)
 
     def day(self) -> str:
+        return shown.day(self.made())
+
+    def later(self, last: int) -> str:
+        """That fixes are later than the day of making, if the last one is."""
+        is_later = self.clock.is_calendar and self.made() < self.clock.moment(last).date()
+        return " Fixes are later than that day." * is_later
+
+    def made(self) -> date:
         """The day that was typed in, or else that of making."""
         day = self.run.typed("day")
-        return shown.day(date.fromisoformat(day)) if day else self.clock.day_of(self.run.fields["made"])
+        return date.fromisoformat(day) if day else self.clock.local(self.run.fields["made"])
 
     def system(self) -> str:
         return shown.text_of(self.run.system or "reference system not known")
@@ -165,10 +173,10 @@ class Wanted:
 
     def growth(self) -> list[Block]:
         """The table of how areas grew, and what its words mean."""
-        last, level = ("last quarter of the days", "of the fixes", "since day"), self.level()
+        last, level = ("last quarter of the days", "of the fixes"), self.level()
         quoted = level < 100
-        found = th("", "Animal", *[f"{level} % MCP"] * quoted, "100 % MCP", "One fix", *last * quoted, *last, "since fix", "date",
-                   "date", "makes")
+        found = th("", "Animal", *[f"{level} % MCP"] * quoted, "100 % MCP", "One fix", *(*last, "since") * quoted, *last, "since fix",
+                   "date", "date", "makes")
         for animal, name in zip(self.animals, self.names):
             found += self.row(animal, name, self.basis(animal).growth())
         return [*found, Block("p", "", GROWTH)]

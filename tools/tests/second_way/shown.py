@@ -103,11 +103,14 @@ class Clock:
     def date(self, second: int) -> str:
         if not self.is_calendar:
             return f"day {second // 86_400 + 1}"
-        return day((datetime(1970, 1, 1, tzinfo=timezone.utc) + timedelta(seconds=second)).astimezone(self.info))
+        return day(self.moment(second))
 
-    def day_of(self, moment: str) -> str:
+    def moment(self, second: int) -> datetime:
+        return (datetime(1970, 1, 1, tzinfo=timezone.utc) + timedelta(seconds=second)).astimezone(self.info)
+
+    def local(self, moment: str) -> date:
         """The day of a moment of UTC that is written as in records."""
-        return day(datetime.fromisoformat(moment).astimezone(self.info))
+        return datetime.fromisoformat(moment).astimezone(self.info).date()
 
     def period(self, first: int, last: int) -> str:
         """Two dates; a month and a year that both have stand once."""
