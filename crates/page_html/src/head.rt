@@ -85,7 +85,9 @@ fn push_typed(text: &mut Vec<u8>, name: &[u8], words: Option<&[u8]>) -> Result<(
 fn push_all_typed(text: &mut Vec<u8>, words: &Words) -> Result<(), AllocError> {
     push_typed(text, b"Study", words.study)?;
     push_typed(text, b"Species", words.species)?;
-    push_typed(text, b"By", words.by)
+    push_typed(text, b"By", words.by)?;
+    push_typed(text, b"Reference", words.reference)?;
+    push_typed(text, b"Purpose", words.purpose)
 }
 
 // The seconds of the first and of the last fix of all animals.

@@ -33,6 +33,8 @@ li { overflow-wrap: anywhere; break-inside: avoid; }
 .note, .key { font-size: 8pt; color: #333; }
 .whole { break-inside: avoid; }
 p { orphans: 3; widows: 3; }
+.sign { display: grid; grid-template-columns: 1fr 1fr; column-gap: 8mm; }
+.sign p { margin: 11mm 0 0; border-top: 0.3mm solid #444; font-size: 8pt; color: #333; }
 .key { overflow-wrap: anywhere; }
 .key span { margin-right: 3.5mm; }
 .key .line { white-space: nowrap; }
@@ -200,6 +202,16 @@ pub(crate) const BEFORE_VERIFY: &[u8] = br##"
 <p>"##;
 
 pub(crate) const BEHIND_VERIFY: &[u8] = br##"</p>
+</section>
+<section class="whole">
+<h2>Signature</h2>
+<div class="sign">
+<p>Place</p>
+<p>Day</p>
+<p>Name</p>
+<p>Office</p>
+<p>Signature</p>
+</div>
 </section>
 </body>
 </html>

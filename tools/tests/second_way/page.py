@@ -81,7 +81,7 @@ class Wanted:
         return re.sub("[^0-9A-Za-z ]", lambda sign: f"\\{ord(sign[0]):06x} ", signs)
 
     def typed(self) -> str:
-        texts = ((name.capitalize(), shown.text_of(self.run.typed(name))) for name in ("study", "species", "by"))
+        texts = ((name.capitalize(), shown.text_of(self.run.typed(name))) for name in ("study", "species", "by", "reference", "purpose"))
         return " ".join(f"{name}: {text}" for name, text in texts if text)
 
     def day(self) -> str:
