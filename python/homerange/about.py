@@ -15,7 +15,7 @@ from .program import GROUP, MOST_ANIMALS, Program
 from .record import Record, escaped, unescaped
 from .report import TEXT
 
-FORM = 1  # of tables, layers, page, record and evidence.txt: another byte that their makers write takes another number
+FORM = 2  # of tables, layers, page, record and evidence.txt: another byte that their makers write takes another number
 MOMENT = "%Y-%m-%dT%H:%M:%SZ"
 FIRST = ("form", "made", "program", "program sha256", "arguments", "unit", "levels", "runs", "commit", "sources", "logic")
 TYPED = ("title", "study", "species", "by", "reference", "purpose")

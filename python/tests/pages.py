@@ -32,6 +32,8 @@ class Page(HTMLParser):
             self.animal = known.get("data-animal")
         if tag in ("td", "th", "span", "li", "h1", "title", "figcaption"):
             self.target = self.place(tag, known)
+            of, key = self.target
+            of.pop(key, None)  # the number of an animal stands in each of its tables
 
     def place(self, tag, known):
         """Where the text of a tag goes."""

@@ -40,14 +40,20 @@ def test_each_cell_of_an_animal(page):
         within, _, quarter = by_definition([area2(hull(points[:n])) for n in range(1, len(points) + 1)])
         days = Decimal(last - SECOND) / 86_400
         interval = length(1800) if len(points) > 1 else DASH
-        assert page.animals[name] == {
+        cells = page.animals[name]
+        wanted = {
             "number": str(number), "records": f"{len(points):,}", "used": f"{len(points):,}", "first": day(SECOND, ZONE),
             "last": day(last, ZONE), "days": rounded(days, 1 if days < 10 else 0), "median_interval": interval,
             "longest_interval": interval,
             **{f"hectares_{level}": area(area2(hull(nearest(points, level)))) for level in LEVELS},
             "within_95_fix": str(within) if within else DASH,
             "within_95_date": day(SECOND + 1800 * (within - 1), ZONE) if within else DASH,
-            "last_quarter": f"{rounded(100 * Decimal(quarter.numerator) / quarter.denominator, 1)} %" if within else DASH}
+            "last_quarter": f"{rounded(100 * Decimal(quarter.numerator) / quarter.denominator, 1)} %" if within else DASH,
+            "places": str(len({*points})), "repeats": "0", "clashes": "0", "gap": "1 Mar 2024" if len(points) > 1 else DASH}
+        # What else the areas rest on tools/tests/second_way computes.
+        assert {field: cells[field] for field in wanted} == wanted
+        assert {*cells} - {*wanted} == {"quoted_days", "quoted_fixes", "quoted_since", "last_days", "since_day", "one_fix",
+                                        "one_fix_share", "half_days", "step", "step_date"}
 
 
 def test_each_cell_of_overlaps(page):
@@ -62,7 +68,9 @@ def test_each_cell_of_overlaps(page):
 
 def test_a_sentence_for_each_animal(page):
     kept = nearest(HERD["vixen"], 95)
-    assert page.all("li")[0] == f"vixen: 95 % MCP {area(area2(hull(kept)))} ha, {len(kept)} of 120 fixes, 1 to 3 Mar 2024"
+    whole, early = area2(hull(kept)), area2(hull(nearest(HERD["vixen"][:90], 95)))
+    assert page.all("li")[0] == (f"vixen: 95 % MCP {area(whole)} ha, {len(kept)} of 120 fixes, 1 to 3 Mar 2024; over the last quarter of "
+                                 f"the days it grew by {rounded(100 * Decimal(whole - early) / whole, 1)} %")
     assert page.all("li")[3] == "NA: 95 % MCP has no area, 1 fix, 1 Mar 2024"
     assert page.fields["period"] == f"1 to 3 Mar 2024 (dates of {ZONE})"
     assert "Pairs of animals that meet: " in page.text

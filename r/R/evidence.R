@@ -2,7 +2,7 @@
 # checksums.
 # docs/EVIDENCE.md says what it shows.
 
-form_of_evidence <- "1"  # that of tables, layers, page and records: another byte that their makers write takes another number
+form_of_evidence <- "2"  # that of tables, layers, page and records: another byte that their makers write takes another number
 
 # Makes the folder of evidence of home ranges, whose page is written with the other arguments.
 homerange_evidence <- function(x, folder, ...) {

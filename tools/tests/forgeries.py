@@ -457,10 +457,10 @@ forgery.sealed("77 a moment of making that no calendar has", "evidence.txt has a
 forgery.sealed("78 fields in another order", OTHER_FORM + "their order",
                file="evidence.txt", old="^(unit: .*\n)(levels: .*\n)", new=r"\2\1")
 forgery.sealed("79 another form, whose number is no number", "evidence.txt does not begin with the number of its form",
-               file="evidence.txt", old="^form: 1", new="form: one")
+               file="evidence.txt", old="^form: 2", new="form: one")
 forgery.sealed("80 another form",
-               "evidence.txt as a whole: it says form 2, and version 1.0.0, whose program it names, makes form 1",
-               file="evidence.txt", old="^form: 1", new="form: 2")
+               "evidence.txt as a whole: it says form 3, and version 1.0.0, whose program it names, makes form 2",
+               file="evidence.txt", old="^form: 2", new="form: 3")
 forgery.sealed("81 what makes tracks says more", "split.txt has a line 'tool' that is none of what makes tracks",
                file="tracks/split.txt", old="^(tool,homerange-split .*)", new=r"\1 seen by the authority")
 forgery.sealed("82 what makes no tracks", "split.txt has a line 'tool' that is none of what makes tracks",

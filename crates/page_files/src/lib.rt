@@ -2,6 +2,7 @@
 #![tactic(auto)]
 
 mod agree;
+mod basis;
 mod beside;
 mod drawn;
 mod fault;

@@ -6,7 +6,9 @@ ghost use Rattle.page_tables.specs.Overlaps.{overlaps};
 ghost use Rattle.page_tables.specs.Summary.{summary};
 
 use crate::agree::check_agrees;
+use crate::basis::basis_of_all;
 use crate::beside::check_words;
+use crate::drawn::drawn_of;
 use crate::fault::{PageFault, record_fault, refused, report_fault};
 use crate::given::{Given, Words};
 use crate::known::known_of;
@@ -133,9 +135,12 @@ fn rest_of<'a>(
     let known = known_of(alloc, report, record, given.tracks)?;
     let causes = causes_of(alloc, report, &known)?;
     let told = told_of_all(alloc, report, &known, &causes)?;
+    let drawn = drawn_of(alloc, report, given.tracks)?;
+    let basis = basis_of_all(alloc, report, &drawn)?;
     let shown = Shown {
         report,
         told: &told,
+        basis: &basis,
         causes: &causes,
         source: source_of(record),
         dated: are_dates(report),
@@ -144,7 +149,9 @@ fn rest_of<'a>(
     };
     let rings = rings_of(alloc, given.boundary)?;
     let boundary = rings.as_deref();
-    let page = page_of(alloc, &shown, given, words, record, &known, boundary)?;
+    let page = page_of(
+        alloc, &shown, given, words, record, &known, &drawn, boundary,
+    )?;
     Ok((animals_of(alloc, &shown)?, page))
 }
 

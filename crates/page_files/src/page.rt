@@ -1,7 +1,7 @@
 // The page of a folder.
 
 use crate::beside::are_of_zone;
-use crate::drawn::drawn_of;
+use crate::drawn::AllDrawn;
 use crate::fault::{PageFault, refused};
 use crate::given::{Given, Words};
 use crate::known::Known;
@@ -85,9 +85,9 @@ pub(crate) fn page_of(
     words: &Words,
     record: Option<&Record>,
     known: &Known,
+    drawn: &AllDrawn,
     boundary: Option<&[Vec<Ground>]>,
 ) -> Result<Vec<u8>, PageFault> {
-    let drawn = drawn_of(alloc, shown.report, given.tracks)?;
     let plane = plane_of(alloc, shown, words, record)?;
     let system = system_text(alloc, words, record)?;
     let unused = unused_of(alloc, shown.report, known)?;

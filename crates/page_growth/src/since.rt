@@ -54,5 +54,8 @@ pub(crate) fn first_period(
         }
         period = earlier;
     }
+    if period <= 1 {
+        return Ok(Some(Since::Period(period)));
+    }
     Ok(Some(Since::Before(period)))
 }

@@ -11,9 +11,9 @@ use page_facts::Facts;
 use page_ground::{push_ground, push_key};
 use page_map::draw_maps;
 use page_sections::{
-    Origin, Shown, Sums, push_animals_table, push_left_out, push_method, push_options,
-    push_overlap_sentence, push_overlap_table, push_said, push_sentences, push_sums, push_verify,
-    push_without_range,
+    Origin, Shown, Sums, push_animals_table, push_growth_table, push_left_out, push_method,
+    push_options, push_overlap_sentence, push_overlap_table, push_said, push_sampling_table,
+    push_sentences, push_sums, push_verify, push_without_range,
 };
 use range_plane::Scale;
 use std::alloc::{AllocError, Global};
@@ -27,6 +27,8 @@ fn push_ranges(alloc: Global, text: &mut Vec<u8>, page: &Page) -> Result<(), All
     push_sentences(alloc, text, &page.shown)?;
     text.extend_from_slice(BEFORE_ANIMALS)?;
     push_animals_table(text, &page.shown)?;
+    push_growth_table(text, &page.shown)?;
+    push_sampling_table(text, &page.shown)?;
     text.extend_from_slice(BEFORE_NOTES)?;
     push_without_range(text, page.shown.source, page.unused)
 }

@@ -1,8 +1,8 @@
-// The table of animals: what became of their fixes, when they were, their areas and how these grew.
+// The table of animals: what became of their fixes, when they were, and their areas.
 
 use crate::cells::{
     push_area_cell, push_count, push_count_cell, push_date_cell, push_end, push_interval_cell,
-    push_share_cell, push_start,
+    push_start,
 };
 use crate::headings::{ANIMAL, push_headings, push_levels, push_percents};
 use crate::reasons::{Cause, field};
@@ -67,18 +67,6 @@ fn push_facts(text: &mut Vec<u8>, shown: &Shown, told: &Told) -> Result<(), Allo
     push_times(text, shown, &told.facts)
 }
 
-// Appends the cells of how an area grew.
-fn push_growth(text: &mut Vec<u8>, shown: &Shown, facts: &Facts) -> Result<(), AllocError> {
-    let growth = &facts.growth;
-    let within = match growth.within {
-        Some(fix) => Some(fix as u64),
-        None => None,
-    };
-    push_share_cell(text, b"last_quarter", growth.quarter, growth.area2)?;
-    push_count_cell(text, b"within_95_fix", within)?;
-    push_date_cell(text, b"within_95_date", shown, facts.within_second)
-}
-
 // Appends the cells of areas.
 fn push_areas(text: &mut Vec<u8>, shown: &Shown, animal: &ReadAnimal) -> Result<(), AllocError> {
     for own in levels_of(shown.report) {
@@ -92,7 +80,11 @@ fn push_areas(text: &mut Vec<u8>, shown: &Shown, animal: &ReadAnimal) -> Result<
 }
 
 // Appends the start of the line of an animal: its number and its name.
-fn push_begin(text: &mut Vec<u8>, number: u64, animal: &ReadAnimal) -> Result<(), AllocError> {
+pub(crate) fn push_begin(
+    text: &mut Vec<u8>,
+    number: u64,
+    animal: &ReadAnimal,
+) -> Result<(), AllocError> {
     text.extend_from_slice(b"<tr data-animal=\"")?;
     push_attribute(text, &animal.name)?;
     text.extend_from_slice(b"\"><td class=\"")?;
@@ -118,7 +110,6 @@ fn push_line(
     if has_areas {
         push_areas(text, shown, animal)?;
     }
-    push_growth(text, shown, &told.facts)?;
     text.extend_from_slice(b"</tr>\n")
 }
 

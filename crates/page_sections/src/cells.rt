@@ -2,7 +2,7 @@
 
 use crate::shown::{Shown, area};
 use page_dates::push_date;
-use page_text::{Places, push_fixed, push_hectares, push_interval, push_share_of_area};
+use page_text::{Places, push_fixed, push_hectares, push_interval};
 use range_plane::Scale;
 use std::alloc::AllocError;
 
@@ -63,18 +63,6 @@ pub(crate) fn push_interval_cell(
 ) -> Result<(), AllocError> {
     push_start(text, field)?;
     push_interval(text, seconds2)?;
-    push_end(text)
-}
-
-// Appends the cell of a share of an area.
-pub(crate) fn push_share_cell(
-    text: &mut Vec<u8>,
-    field: &[u8],
-    part: u128,
-    whole: u128,
-) -> Result<(), AllocError> {
-    push_start(text, field)?;
-    push_share_of_area(text, area(part), area(whole))?;
     push_end(text)
 }
 

@@ -11,6 +11,9 @@ use std::alloc::AllocError;
 pub(crate) const ANIMAL: &[u8] =
     b"<th rowspan=\"2\"></th><th rowspan=\"2\" class=\"name\">Animal</th>";
 
+// The same in a table with one line of headings.
+pub(crate) const ANIMAL_ONCE: &[u8] = b"<th></th><th class=\"name\">Animal</th>";
+
 // Appends the start of a heading that is written upwards, over so many lines.
 fn push_turned(text: &mut Vec<u8>, lines: &[u8]) -> Result<(), AllocError> {
     text.extend_from_slice(b"<th class=\"turned\" rowspan=\"")?;
@@ -68,8 +71,7 @@ fn push_above(text: &mut Vec<u8>, shown: &Shown, levels: usize) -> Result<(), Al
         b"used</span></th><th rowspan=\"2\">First</th><th rowspan=\"2\">Last</th>",
     )?;
     text.extend_from_slice(b"<th rowspan=\"2\">Days</th><th colspan=\"2\">Interval</th>")?;
-    push_levels(text, levels)?;
-    text.extend_from_slice(b"<th>Area curve</th><th colspan=\"2\">95 % since</th>")
+    push_levels(text, levels)
 }
 
 // Appends the line below.
@@ -79,7 +81,7 @@ fn push_below(text: &mut Vec<u8>, shown: &Shown, has_areas: bool) -> Result<(), 
     if has_areas {
         push_percents(text, levels_of(shown.report))?;
     }
-    text.extend_from_slice(b"<th>last<br>quarter</th><th>fix</th><th>date</th>")
+    Ok(())
 }
 
 // Appends both lines, of a table that may have the areas.

@@ -60,9 +60,7 @@ const RULE: &[u8] =
     b"Of n fixes, the polygon at p % has the p per cent of n, rounded up to whole fixes, that lie nearest to the arithmetic mean of all \
     (of fixes as near, the earlier). Areas are those on the grid. Here they are rounded, halves up, to whole hectares, below 100 \
     hectares to three digits, and below 1 hectare they are in square metres. The area of the 100 % polygon was followed fix by fix \
-    (incremental area analysis, Harris et al. 1990). Here &#8216;last quarter&#8217; is by how much it grew over the last quarter of \
-    the fixes, as a share of the final area, and &#8216;95 % since&#8217; is the first fix from which on it stayed at 95 % or more of \
-    the final one.";
+    (incremental area analysis, Harris et al. 1990).";
 
 /// Appends how ranges were made, by a program of this version, of coordinates of this reference system.
 ///
@@ -177,10 +175,10 @@ fn is_of_files(line: &[u8]) -> bool {
     }
 }
 
-// Whether a line is on columns or on files, which the page has elsewhere or not at all. Its start tells: names and titles that stand
+// Whether a line is on columns that were not read or on files, which the page has not. Its start tells: names and titles that stand
 // in lines are those of strangers.
 fn is_passed(line: &[u8]) -> bool {
-    line.starts_with(b"columns: ") || line.starts_with(b"not read: ") || is_of_files(line)
+    line.starts_with(b"not read: ") || is_of_files(line)
 }
 
 // Whether a line is on records of one animal. Such lines come last, since there may be many.
@@ -232,7 +230,7 @@ fn push_lines(text: &mut Vec<u8>, lines: &[&[u8]]) -> Result<(), AllocError> {
     push_more(text, lines.len().saturating_sub(MOST_SAID))
 }
 
-/// Appends what was said when fixes were read, but for lines on columns and on files; lines on records of one animal come last.
+/// Appends what was said when fixes were read, but for lines on columns that were not read and on files; lines on records of one animal come last.
 ///
 /// # Errors
 ///

@@ -3,6 +3,7 @@
 ghost use Rattle.std.specs.Prelude.{◌<◌, ◌^◌};
 
 use crate::reasons::Cause;
+use page_basis::Basis;
 use page_report::Report;
 use page_tables::Told;
 use range_stats::PercentRow;
@@ -23,6 +24,8 @@ pub struct Shown<'a> {
     pub report: &'a Report,
     /// What is told of each animal, in the order of the report.
     pub told: &'a [Told],
+    /// What the area of each rests on, in the same order.
+    pub basis: &'a [Basis],
     /// Why fixes were left out, in the order of the counts of what is told.
     pub causes: &'a [Cause],
     pub source: Source,

@@ -1,4 +1,4 @@
-// Reports, and the sections of their page, made by `page_text.py` and `page_tables.py` of `python/homerange/write`.
+// Reports, and the sections of their page.
 
 /// A report, and sections of its page.
 #[derive(Clone, Copy)]
@@ -18,29 +18,27 @@ pub(crate) const TWO: Case = Case {
     \nrow,owl,1,1700000000,1,0\nrow,owl,2,1700000108,2,0\nrow,owl,3,1700000208,3,1000\ncorner,owl,1,200,100\ncorne\
     r,owl,2,900,700\ncorner,owl,3,210,110\npercent,owl,50,2,2,0\npercent,owl,100,3,3,1000\noverlap,fox,owl,0,4\nov\
     erlap,owl,fox,2,3\nend,2\n",
-    sentences: "<ul class=\"one\">\n<li><bdi>fox</bdi>: 100 % MCP 12.0 ha, 4 fixes, 14 to 15 Nov 2023</li>\n<li><bdi>owl</bdi>\
-    : 100 % MCP 500 m², 3 fixes, 14 Nov 2023</li>\n</ul>",
-    animals: "<table id=\"animals\" data-zone=\"UTC\">\n<thead><tr><th rowspan=\"2\"></th><th rowspan=\"2\" class=\"name\">A\
-    nimal</th><th class=\"turned\" rowspan=\"2\"><span>in the export</span></th><th colspan=\"3\">Left out</th><t\
-    h class=\"turned\" rowspan=\"2\"><span>used</span></th><th rowspan=\"2\">First</th><th rowspan=\"2\">Last</th>\
-    <th rowspan=\"2\">Days</th><th colspan=\"2\">Interval</th><th colspan=\"2\">MCP, ha</th><th>Area curve</th><t\
-    h colspan=\"2\">95 % since</th></tr>\n<tr><th class=\"turned\" rowspan=\"1\"><span>marked outlier</span></th><\
-    th class=\"turned\" rowspan=\"1\"><span>no DOP</span></th><th class=\"turned\" rowspan=\"1\"><span>too fast</s\
-    pan></th><th>median</th><th>longest</th><th>50 %</th><th>100 %</th><th>last<br>quarter</th><th>fix</th><th>dat\
-    e</th></tr></thead>\n<tbody>\n<tr data-animal=\"fox\"><td class=\"c0 n\" data-field=\"number\">1</td><th><bdi>\
-    fox</bdi></th><td data-field=\"records\">8</td><td data-field=\"left_outlier\">1</td><td data-field=\"left_no_\
-    dop\">0</td><td data-field=\"left_speed\">3</td><td data-field=\"used\">4</td><td data-field=\"first\">14 No\
-    v 2023</td><td data-field=\"last\">15 Nov 2023</td><td data-field=\"days\">0.1</td><td data-field=\"median_int\
-    erval\">60 min</td><td data-field=\"longest_interval\">60 min</td><td data-field=\"hectares_50\">0</td><td dat\
-    a-field=\"hectares_100\">12.0</td><td data-field=\"last_quarter\">50.0 %</td><td data-field=\"within_95_fix\">\
-    4</td><td data-field=\"within_95_date\">15 Nov 2023</td></tr>\n<tr data-animal=\"owl\"><td class=\"c1 n\" data\
-    -field=\"number\">2</td><th><bdi>owl</bdi></th><td data-field=\"records\">5</td><td data-field=\"left_outlier\
-    \">0</td><td data-field=\"left_no_dop\">2</td><td data-field=\"left_speed\">0</td><td data-field=\"used\">3</t\
-    d><td data-field=\"first\">14 Nov 2023</td><td data-field=\"last\">14 Nov 2023</td><td data-field=\"days\">0.0\
-    </td><td data-field=\"median_interval\">2 min</td><td data-field=\"longest_interval\">2 min</td><td data-field\
-    =\"hectares_50\">0</td><td data-field=\"hectares_100\">500 m²</td><td data-field=\"last_quarter\">100.0 %</td>\
-    <td data-field=\"within_95_fix\">3</td><td data-field=\"within_95_date\">14 Nov 2023</td></tr>\n</tbody></tabl\
-    e>",
+    sentences: "<ul class=\"one\">\n<li><bdi>fox</bdi>: 100 % MCP 12.0 ha, 4 fixes, 14 to 15 Nov 2023; 4 fixes of th\
+    e export left out; over the last quarter of the days it grew by 50.0 %</li>\n<li><bdi>owl</bdi>: 100 % MCP 500 m\
+    ², 3 fixes, 14 Nov 2023; 2 fixes of the export left out; over the last quarter of the days it grew by 100.0 %</l\
+    i>\n</ul>",
+    animals: "<table id=\"animals\" data-zone=\"UTC\">\n<thead><tr><th rowspan=\"2\"></th><th rowspan=\"2\" class=\"\
+    name\">Animal</th><th class=\"turned\" rowspan=\"2\"><span>in the export</span></th><th colspan=\"3\">Left out</\
+    th><th class=\"turned\" rowspan=\"2\"><span>used</span></th><th rowspan=\"2\">First</th><th rowspan=\"2\">Last</\
+    th><th rowspan=\"2\">Days</th><th colspan=\"2\">Interval</th><th colspan=\"2\">MCP, ha</th></tr>\n<tr><th class=\
+    \"turned\" rowspan=\"1\"><span>marked outlier</span></th><th class=\"turned\" rowspan=\"1\"><span>no DOP</span><\
+    /th><th class=\"turned\" rowspan=\"1\"><span>too fast</span></th><th>median</th><th>longest</th><th>50 %</th><th\
+    >100 %</th></tr></thead>\n<tbody>\n<tr data-animal=\"fox\"><td class=\"c0 n\" data-field=\"number\">1</td><th><b\
+    di>fox</bdi></th><td data-field=\"records\">8</td><td data-field=\"left_outlier\">1</td><td data-field=\"left_no\
+    _dop\">0</td><td data-field=\"left_speed\">3</td><td data-field=\"used\">4</td><td data-field=\"first\">14 Nov 2\
+    023</td><td data-field=\"last\">15 Nov 2023</td><td data-field=\"days\">0.1</td><td data-field=\"median_interval\
+    \">60 min</td><td data-field=\"longest_interval\">60 min</td><td data-field=\"hectares_50\">0</td><td data-field\
+    =\"hectares_100\">12.0</td></tr>\n<tr data-animal=\"owl\"><td class=\"c1 n\" data-field=\"number\">2</td><th><bd\
+    i>owl</bdi></th><td data-field=\"records\">5</td><td data-field=\"left_outlier\">0</td><td data-field=\"left_no_\
+    dop\">2</td><td data-field=\"left_speed\">0</td><td data-field=\"used\">3</td><td data-field=\"first\">14 Nov 20\
+    23</td><td data-field=\"last\">14 Nov 2023</td><td data-field=\"days\">0.0</td><td data-field=\"median_interval\
+    \">2 min</td><td data-field=\"longest_interval\">2 min</td><td data-field=\"hectares_50\">0</td><td data-field=\
+    \"hectares_100\">500 m²</td></tr>\n</tbody></table>",
     overlap: "Pairs of animals that meet: 1 of 1 (a fix of one lies in the 100 % polygon of the other, its edges included)\
     . Most of all <bdi>owl</bdi>: 2 (67 %) of its 3 fixes in the range of <bdi>fox</bdi>.",
     overlaps: "<p class=\"note\">Rows: whose fixes. Columns: in the range of the animal with this number.</p>\n<table id=\"ov\
@@ -48,15 +46,12 @@ pub(crate) const TWO: Case = Case {
     r></thead>\n<tbody>\n<tr><td class=\"c0 n\">1</td><th><bdi>fox</bdi></th><td>–</td><td data-animal=\"fox\" dat\
     a-other=\"owl\">0</td></tr>\n<tr><td class=\"c1 n\">2</td><th><bdi>owl</bdi></th><td data-animal=\"owl\" data-\
     other=\"fox\">2 (67 %)</td><td>–</td></tr>\n</tbody></table>",
-    method: "Home ranges are minimum convex polygons (MCP) of 100 % and 50 % of the fixes; that of all fixes i\
-    s the one of Mohr (1947). They were computed by homerange 1.0.0 from coordinates in whole metres, EPSG:32633 (\
-    WGS 84 / UTM zone 33N). Of n fixes, the polygon at p % has the p per cent of n, rounded up to whole fixes, tha\
-    t lie nearest to the arithmetic mean of all (of fixes as near, the earlier). Areas are those on the grid. Her\
-    e they are rounded, halves up, to whole hectares, below 100 hectares to three digits, and below 1 hectare the\
-    y are in square metres. The area of the 100 % polygon was followed fix by fix (incremental area analysis, Harr\
-    is et al. 1990). Here &#8216;last quarter&#8217; is by how much it grew over the last quarter of the fixes, a\
-    s a share of the final area, and &#8216;95 % since&#8217; is the first fix from which on it stayed at 95 % or \
-    more of the final one.",
+    method: "Home ranges are minimum convex polygons (MCP) of 100 % and 50 % of the fixes; that of all fixes is the \
+    one of Mohr (1947). They were computed by homerange 1.0.0 from coordinates in whole metres, EPSG:32633 (WGS 84 / \
+    UTM zone 33N). Of n fixes, the polygon at p % has the p per cent of n, rounded up to whole fixes, that lie neare\
+    st to the arithmetic mean of all (of fixes as near, the earlier). Areas are those on the grid. Here they are rou\
+    nded, halves up, to whole hectares, below 100 hectares to three digits, and below 1 hectare they are in square m\
+    etres. The area of the 100 % polygon was followed fix by fix (incremental area analysis, Harris et al. 1990).",
 };
 
 pub(crate) const NAMES: Case = Case {
@@ -66,29 +61,26 @@ pub(crate) const NAMES: Case = Case {
     o b,1,0,0\ncorner,'o b,2,5,0\ncorner,'o b,3,0,3\npercent,'o b,100,3,3,15\nanimal,@x,fixes,1\nbox,@x,5,5,5,5\nr\
     ow,@x,1,1700000000,1,0\ncorner,@x,1,5,5\npercent,@x,100,1,1,0\noverlap,=1+1,'o b,3,3\noverlap,=1+1,@x,0,3\nove\
     rlap,'o b,=1+1,1,3\noverlap,'o b,@x,0,3\noverlap,@x,=1+1,0,1\noverlap,@x,'o b,0,1\nend,3\n",
-    sentences: "<ul class=\"one\">\n<li><bdi>=1+1</bdi>: 100 % MCP 0.50 m², 3 fixes, 14 Nov 2023</li>\n<li><bdi>&#x27;o b</bdi\
-    >: 100 % MCP 7.50 m², 3 fixes, 14 Nov 2023</li>\n<li><bdi>@x</bdi>: 100 % MCP has no area, 1 fix, 14 Nov 2023<\
-    /li>\n</ul>",
-    animals: "<table id=\"animals\" data-zone=\"UTC\">\n<thead><tr><th rowspan=\"2\"></th><th rowspan=\"2\" class=\"name\">A\
-    nimal</th><th class=\"turned\" rowspan=\"2\"><span>in the data</span></th><th class=\"turned\" rowspan=\"2\"><\
-    span>used</span></th><th rowspan=\"2\">First</th><th rowspan=\"2\">Last</th><th rowspan=\"2\">Days</th><th col\
-    span=\"2\">Interval</th><th colspan=\"1\">MCP, ha</th><th>Area curve</th><th colspan=\"2\">95 % since</th></tr\
-    >\n<tr><th>median</th><th>longest</th><th>100 %</th><th>last<br>quarter</th><th>fix</th><th>date</th></tr></th\
-    ead>\n<tbody>\n<tr data-animal=\"=1+1\"><td class=\"c0 n\" data-field=\"number\">1</td><th><bdi>=1+1</bdi></th\
-    ><td data-field=\"records\">–</td><td data-field=\"used\">3</td><td data-field=\"first\">14 Nov 2023</td><td d\
-    ata-field=\"last\">14 Nov 2023</td><td data-field=\"days\">0.0</td><td data-field=\"median_interval\">2 s</td>\
-    <td data-field=\"longest_interval\">2 s</td><td data-field=\"hectares_100\">0.50 m²</td><td data-field=\"last_\
-    quarter\">100.0 %</td><td data-field=\"within_95_fix\">3</td><td data-field=\"within_95_date\">14 Nov 2023</td\
-    ></tr>\n<tr data-animal=\"&#x27;o b\"><td class=\"c1 n\" data-field=\"number\">2</td><th><bdi>&#x27;o b</bdi><\
-    /th><td data-field=\"records\">–</td><td data-field=\"used\">3</td><td data-field=\"first\">14 Nov 2023</td><t\
-    d data-field=\"last\">14 Nov 2023</td><td data-field=\"days\">0.0</td><td data-field=\"median_interval\">2 s</\
-    td><td data-field=\"longest_interval\">2 s</td><td data-field=\"hectares_100\">7.50 m²</td><td data-field=\"la\
-    st_quarter\">100.0 %</td><td data-field=\"within_95_fix\">3</td><td data-field=\"within_95_date\">14 Nov 2023<\
-    /td></tr>\n<tr data-animal=\"@x\"><td class=\"c2 n\" data-field=\"number\">3</td><th><bdi>@x</bdi></th><td dat\
-    a-field=\"records\">–</td><td data-field=\"used\">1</td><td data-field=\"first\">14 Nov 2023</td><td data-fiel\
-    d=\"last\">14 Nov 2023</td><td data-field=\"days\">0.0</td><td data-field=\"median_interval\">–</td><td data-f\
-    ield=\"longest_interval\">–</td><td data-field=\"hectares_100\">0</td><td data-field=\"last_quarter\">–</td><t\
-    d data-field=\"within_95_fix\">–</td><td data-field=\"within_95_date\">–</td></tr>\n</tbody></table>",
+    sentences: "<ul class=\"one\">\n<li><bdi>=1+1</bdi>: 100 % MCP 0.50 m², 3 fixes, 14 Nov 2023; over the last quar\
+    ter of the days it grew by 100.0 %</li>\n<li><bdi>&#x27;o b</bdi>: 100 % MCP 7.50 m², 3 fixes, 14 Nov 2023; over \
+    the last quarter of the days it grew by 100.0 %</li>\n<li><bdi>@x</bdi>: 100 % MCP has no area, 1 fix, 14 Nov 20\
+    23</li>\n</ul>",
+    animals: "<table id=\"animals\" data-zone=\"UTC\">\n<thead><tr><th rowspan=\"2\"></th><th rowspan=\"2\" class=\"\
+    name\">Animal</th><th class=\"turned\" rowspan=\"2\"><span>in the data</span></th><th class=\"turned\" rowspan=\
+    \"2\"><span>used</span></th><th rowspan=\"2\">First</th><th rowspan=\"2\">Last</th><th rowspan=\"2\">Days</th><t\
+    h colspan=\"2\">Interval</th><th colspan=\"1\">MCP, ha</th></tr>\n<tr><th>median</th><th>longest</th><th>100 %</\
+    th></tr></thead>\n<tbody>\n<tr data-animal=\"=1+1\"><td class=\"c0 n\" data-field=\"number\">1</td><th><bdi>=1+1\
+    </bdi></th><td data-field=\"records\">–</td><td data-field=\"used\">3</td><td data-field=\"first\">14 Nov 2023</\
+    td><td data-field=\"last\">14 Nov 2023</td><td data-field=\"days\">0.0</td><td data-field=\"median_interval\">2 \
+    s</td><td data-field=\"longest_interval\">2 s</td><td data-field=\"hectares_100\">0.50 m²</td></tr>\n<tr data-an\
+    imal=\"&#x27;o b\"><td class=\"c1 n\" data-field=\"number\">2</td><th><bdi>&#x27;o b</bdi></th><td data-field=\"\
+    records\">–</td><td data-field=\"used\">3</td><td data-field=\"first\">14 Nov 2023</td><td data-field=\"last\">1\
+    4 Nov 2023</td><td data-field=\"days\">0.0</td><td data-field=\"median_interval\">2 s</td><td data-field=\"longe\
+    st_interval\">2 s</td><td data-field=\"hectares_100\">7.50 m²</td></tr>\n<tr data-animal=\"@x\"><td class=\"c2 n\
+    \" data-field=\"number\">3</td><th><bdi>@x</bdi></th><td data-field=\"records\">–</td><td data-field=\"used\">1<\
+    /td><td data-field=\"first\">14 Nov 2023</td><td data-field=\"last\">14 Nov 2023</td><td data-field=\"days\">0.0\
+    </td><td data-field=\"median_interval\">–</td><td data-field=\"longest_interval\">–</td><td data-field=\"hectare\
+    s_100\">0</td></tr>\n</tbody></table>",
     overlap: "Pairs of animals that meet: 1 of 3 (a fix of one lies in the 100 % polygon of the other, its edges included)\
     . Most of all <bdi>=1+1</bdi>: 3 (100 %) of its 3 fixes in the range of <bdi>&#x27;o b</bdi>.",
     overlaps: "<p class=\"note\">Rows: whose fixes. Columns: in the range of the animal with this number.</p>\n<table id=\"ov\
@@ -99,15 +91,12 @@ pub(crate) const NAMES: Case = Case {
     1+1\">1 (33 %)</td><td>–</td><td data-animal=\"&#x27;o b\" data-other=\"@x\">0</td></tr>\n<tr><td class=\"c2 n\
     \">3</td><th><bdi>@x</bdi></th><td data-animal=\"@x\" data-other=\"=1+1\">0</td><td data-animal=\"@x\" data-ot\
     her=\"&#x27;o b\">0</td><td>–</td></tr>\n</tbody></table>",
-    method: "Home ranges are minimum convex polygons (MCP) of 100 % of the fixes; that of all fixes is the on\
-    e of Mohr (1947). They were computed by homerange 1.0.0 from coordinates in whole metres, EPSG:32633 (WGS 84 \
-    / UTM zone 33N). Of n fixes, the polygon at p % has the p per cent of n, rounded up to whole fixes, that lie n\
-    earest to the arithmetic mean of all (of fixes as near, the earlier). Areas are those on the grid. Here they a\
-    re rounded, halves up, to whole hectares, below 100 hectares to three digits, and below 1 hectare they are in \
-    square metres. The area of the 100 % polygon was followed fix by fix (incremental area analysis, Harris et al\
-    . 1990). Here &#8216;last quarter&#8217; is by how much it grew over the last quarter of the fixes, as a shar\
-    e of the final area, and &#8216;95 % since&#8217; is the first fix from which on it stayed at 95 % or more of \
-    the final one.",
+    method: "Home ranges are minimum convex polygons (MCP) of 100 % of the fixes; that of all fixes is the one of M\
+    ohr (1947). They were computed by homerange 1.0.0 from coordinates in whole metres, EPSG:32633 (WGS 84 / UTM zon\
+    e 33N). Of n fixes, the polygon at p % has the p per cent of n, rounded up to whole fixes, that lie nearest to t\
+    he arithmetic mean of all (of fixes as near, the earlier). Areas are those on the grid. Here they are rounded, h\
+    alves up, to whole hectares, below 100 hectares to three digits, and below 1 hectare they are in square metres. \
+    The area of the 100 % polygon was followed fix by fix (incremental area analysis, Harris et al. 1990).",
 };
 
 pub(crate) const DECIMETRES: Case = Case {
@@ -126,32 +115,27 @@ pub(crate) const DECIMETRES: Case = Case {
     t,4,5000000,50000001\npercent,cat,50,2,2,0\npercent,cat,95,4,4,3\npercent,cat,100,4,4,3\noverlap,fox,owl,1,6\
     \noverlap,fox,cat,1,6\noverlap,owl,fox,2,16\noverlap,owl,cat,1,16\noverlap,cat,fox,2,4\noverlap,cat,owl,1,4\ne\
     nd,3\n",
-    sentences: "<ul class=\"one\">\n<li><bdi>fox</bdi>: 95 % MCP 2.71 m², 6 fixes, 14 Nov 2023</li>\n<li><bdi>owl</bdi>: 9\
-    5 % MCP has no area, 16 fixes, 14 Nov 2023</li>\n<li><bdi>cat</bdi>: 95 % MCP 0.02 m², 4 fixes, 14 Nov 2023</l\
-    i>\n</ul>",
-    animals: "<table id=\"animals\" data-zone=\"UTC\">\n<thead><tr><th rowspan=\"2\"></th><th rowspan=\"2\" class=\"name\">A\
-    nimal</th><th class=\"turned\" rowspan=\"2\"><span>in the data</span></th><th class=\"turned\" rowspan=\"2\"><\
-    span>used</span></th><th rowspan=\"2\">First</th><th rowspan=\"2\">Last</th><th rowspan=\"2\">Days</th><th col\
-    span=\"2\">Interval</th><th colspan=\"3\">MCP, ha</th><th>Area curve</th><th colspan=\"2\">95 % since</th></tr\
-    >\n<tr><th>median</th><th>longest</th><th>50 %</th><th>95 %</th><th>100 %</th><th>last<br>quarter</th><th>fix<\
-    /th><th>date</th></tr></thead>\n<tbody>\n<tr data-animal=\"fox\"><td class=\"c0 n\" data-field=\"number\">1</t\
-    d><th><bdi>fox</bdi></th><td data-field=\"records\">–</td><td data-field=\"used\">6</td><td data-field=\"first\
-    \">14 Nov 2023</td><td data-field=\"last\">14 Nov 2023</td><td data-field=\"days\">0.0</td><td data-field=\"me\
-    dian_interval\">60 s</td><td data-field=\"longest_interval\">60 s</td><td data-field=\"hectares_50\">0.52 m²</\
-    td><td data-field=\"hectares_95\">2.71 m²</td><td data-field=\"hectares_100\">2.71 m²</td><td data-field=\"las\
-    t_quarter\">47.8 %</td><td data-field=\"within_95_fix\">6</td><td data-field=\"within_95_date\">14 Nov 2023</t\
-    d></tr>\n<tr data-animal=\"owl\"><td class=\"c1 n\" data-field=\"number\">2</td><th><bdi>owl</bdi></th><td dat\
-    a-field=\"records\">–</td><td data-field=\"used\">16</td><td data-field=\"first\">14 Nov 2023</td><td data-fie\
-    ld=\"last\">14 Nov 2023</td><td data-field=\"days\">0.0</td><td data-field=\"median_interval\">61 s</td><td da\
-    ta-field=\"longest_interval\">61 s</td><td data-field=\"hectares_50\">0</td><td data-field=\"hectares_95\">0</\
-    td><td data-field=\"hectares_100\">0</td><td data-field=\"last_quarter\">–</td><td data-field=\"within_95_fix\
-    \">–</td><td data-field=\"within_95_date\">–</td></tr>\n<tr data-animal=\"cat\"><td class=\"c2 n\" data-field=\
-    \"number\">3</td><th><bdi>cat</bdi></th><td data-field=\"records\">–</td><td data-field=\"used\">4</td><td dat\
-    a-field=\"first\">14 Nov 2023</td><td data-field=\"last\">14 Nov 2023</td><td data-field=\"days\">0.0</td><t\
-    d data-field=\"median_interval\">3 s</td><td data-field=\"longest_interval\">5 s</td><td data-field=\"hectares\
-    _50\">0</td><td data-field=\"hectares_95\">0.02 m²</td><td data-field=\"hectares_100\">0.02 m²</td><td data-fi\
-    eld=\"last_quarter\">66.7 %</td><td data-field=\"within_95_fix\">4</td><td data-field=\"within_95_date\">14 No\
-    v 2023</td></tr>\n</tbody></table>",
+    sentences: "<ul class=\"one\">\n<li><bdi>fox</bdi>: 95 % MCP 2.71 m², all 6 fixes, 14 Nov 2023</li>\n<li><bdi>ow\
+    l</bdi>: 95 % MCP has no area, all 16 fixes, 14 Nov 2023</li>\n<li><bdi>cat</bdi>: 95 % MCP 0.02 m², all 4 fixes\
+    , 14 Nov 2023</li>\n</ul>",
+    animals: "<table id=\"animals\" data-zone=\"UTC\">\n<thead><tr><th rowspan=\"2\"></th><th rowspan=\"2\" class=\"\
+    name\">Animal</th><th class=\"turned\" rowspan=\"2\"><span>in the data</span></th><th class=\"turned\" rowspan=\
+    \"2\"><span>used</span></th><th rowspan=\"2\">First</th><th rowspan=\"2\">Last</th><th rowspan=\"2\">Days</th><t\
+    h colspan=\"2\">Interval</th><th colspan=\"3\">MCP, ha</th></tr>\n<tr><th>median</th><th>longest</th><th>50 %</t\
+    h><th>95 %</th><th>100 %</th></tr></thead>\n<tbody>\n<tr data-animal=\"fox\"><td class=\"c0 n\" data-field=\"num\
+    ber\">1</td><th><bdi>fox</bdi></th><td data-field=\"records\">–</td><td data-field=\"used\">6</td><td data-field\
+    =\"first\">14 Nov 2023</td><td data-field=\"last\">14 Nov 2023</td><td data-field=\"days\">0.0</td><td data-fiel\
+    d=\"median_interval\">60 s</td><td data-field=\"longest_interval\">60 s</td><td data-field=\"hectares_50\">0.52 \
+    m²</td><td data-field=\"hectares_95\">2.71 m²</td><td data-field=\"hectares_100\">2.71 m²</td></tr>\n<tr data-an\
+    imal=\"owl\"><td class=\"c1 n\" data-field=\"number\">2</td><th><bdi>owl</bdi></th><td data-field=\"records\">–<\
+    /td><td data-field=\"used\">16</td><td data-field=\"first\">14 Nov 2023</td><td data-field=\"last\">14 Nov 2023<\
+    /td><td data-field=\"days\">0.0</td><td data-field=\"median_interval\">61 s</td><td data-field=\"longest_interva\
+    l\">61 s</td><td data-field=\"hectares_50\">0</td><td data-field=\"hectares_95\">0</td><td data-field=\"hectares\
+    _100\">0</td></tr>\n<tr data-animal=\"cat\"><td class=\"c2 n\" data-field=\"number\">3</td><th><bdi>cat</bdi></t\
+    h><td data-field=\"records\">–</td><td data-field=\"used\">4</td><td data-field=\"first\">14 Nov 2023</td><td da\
+    ta-field=\"last\">14 Nov 2023</td><td data-field=\"days\">0.0</td><td data-field=\"median_interval\">3 s</td><td \
+    data-field=\"longest_interval\">5 s</td><td data-field=\"hectares_50\">0</td><td data-field=\"hectares_95\">0.02 \
+    m²</td><td data-field=\"hectares_100\">0.02 m²</td></tr>\n</tbody></table>",
     overlap: "Pairs of animals that meet: 3 of 3 (a fix of one lies in the 100 % polygon of the other, its edges included)\
     . Most of all <bdi>cat</bdi>: 2 (50 %) of its 4 fixes in the range of <bdi>fox</bdi>.",
     overlaps: "<p class=\"note\">Rows: whose fixes. Columns: in the range of the animal with this number.</p>\n<table id=\"ov\
@@ -162,15 +146,13 @@ pub(crate) const DECIMETRES: Case = Case {
     </td><td>–</td><td data-animal=\"owl\" data-other=\"cat\">1 (6 %)</td></tr>\n<tr><td class=\"c2 n\">3</td><th>\
     <bdi>cat</bdi></th><td data-animal=\"cat\" data-other=\"fox\">2 (50 %)</td><td data-animal=\"cat\" data-other=\
     \"owl\">1 (25 %)</td><td>–</td></tr>\n</tbody></table>",
-    method: "Home ranges are minimum convex polygons (MCP) of 100 %, 95 % and 50 % of the fixes; that of all f\
-    ixes is the one of Mohr (1947). They were computed by homerange 1.0.0 from coordinates in whole decimetres, EP\
-    SG:32633 (WGS 84 / UTM zone 33N). Of n fixes, the polygon at p % has the p per cent of n, rounded up to whole \
-    fixes, that lie nearest to the arithmetic mean of all (of fixes as near, the earlier). Areas are those on the \
-    grid. Here they are rounded, halves up, to whole hectares, below 100 hectares to three digits, and below 1 hec\
-    tare they are in square metres. The area of the 100 % polygon was followed fix by fix (incremental area analys\
-    is, Harris et al. 1990). Here &#8216;last quarter&#8217; is by how much it grew over the last quarter of the f\
-    ixes, as a share of the final area, and &#8216;95 % since&#8217; is the first fix from which on it stayed at 9\
-    5 % or more of the final one.",
+    method: "Home ranges are minimum convex polygons (MCP) of 100 %, 95 % and 50 % of the fixes; that of all fixes \
+    is the one of Mohr (1947). They were computed by homerange 1.0.0 from coordinates in whole decimetres, EPSG:3263\
+    3 (WGS 84 / UTM zone 33N). Of n fixes, the polygon at p % has the p per cent of n, rounded up to whole fixes, th\
+    at lie nearest to the arithmetic mean of all (of fixes as near, the earlier). Areas are those on the grid. Here \
+    they are rounded, halves up, to whole hectares, below 100 hectares to three digits, and below 1 hectare they are \
+    in square metres. The area of the 100 % polygon was followed fix by fix (incremental area analysis, Harris et al\
+    . 1990).",
 };
 
 pub(crate) const SECONDS: Case = Case {
@@ -179,24 +161,21 @@ pub(crate) const SECONDS: Case = Case {
     cent,fox,100,4,4,240000\nanimal,owl,fixes,3\nbox,owl,200,0,900,900\nrow,owl,1,5,1,0\nrow,owl,2,9223372036,2,0\
     \nrow,owl,3,1099511627776,3,560000\ncorner,owl,1,200,100\ncorner,owl,2,900,0\ncorner,owl,3,200,900\npercent,ow\
     l,100,3,3,560000\noverlap,fox,owl,1,4\noverlap,owl,fox,1,3\nend,2\n",
-    sentences: "<ul class=\"one\">\n<li><bdi>fox</bdi>: 100 % MCP 12.0 ha, 4 fixes, day 1 to 106752</li>\n<li><bdi>owl</bdi>\
-    : 100 % MCP 28.0 ha, 3 fixes, day 1 to 12725830</li>\n</ul>",
-    animals: "<table id=\"animals\" data-zone=\"UTC\">\n<thead><tr><th rowspan=\"2\"></th><th rowspan=\"2\" class=\"name\">A\
-    nimal</th><th class=\"turned\" rowspan=\"2\"><span>in the data</span></th><th class=\"turned\" rowspan=\"2\"><\
-    span>used</span></th><th rowspan=\"2\">First</th><th rowspan=\"2\">Last</th><th rowspan=\"2\">Days</th><th col\
-    span=\"2\">Interval</th><th colspan=\"1\">MCP, ha</th><th>Area curve</th><th colspan=\"2\">95 % since</th></tr\
-    >\n<tr><th>median</th><th>longest</th><th>100 %</th><th>last<br>quarter</th><th>fix</th><th>date</th></tr></th\
-    ead>\n<tbody>\n<tr data-animal=\"fox\"><td class=\"c0 n\" data-field=\"number\">1</td><th><bdi>fox</bdi></th><\
-    td data-field=\"records\">–</td><td data-field=\"used\">4</td><td data-field=\"first\">day 1</td><td data-fiel\
-    d=\"last\">day 106752</td><td data-field=\"days\">106,752</td><td data-field=\"median_interval\">9.0 d</td><t\
-    d data-field=\"longest_interval\">106,742.0 d</td><td data-field=\"hectares_100\">12.0</td><td data-field=\"la\
-    st_quarter\">50.0 %</td><td data-field=\"within_95_fix\">4</td><td data-field=\"within_95_date\">day 106752</t\
-    d></tr>\n<tr data-animal=\"owl\"><td class=\"c1 n\" data-field=\"number\">2</td><th><bdi>owl</bdi></th><td dat\
-    a-field=\"records\">–</td><td data-field=\"used\">3</td><td data-field=\"first\">day 1</td><td data-field=\"la\
-    st\">day 12725830</td><td data-field=\"days\">12,725,829</td><td data-field=\"median_interval\">6,362,914.5 d<\
-    /td><td data-field=\"longest_interval\">12,619,077.0 d</td><td data-field=\"hectares_100\">28.0</td><td data-f\
-    ield=\"last_quarter\">100.0 %</td><td data-field=\"within_95_fix\">3</td><td data-field=\"within_95_date\">da\
-    y 12725830</td></tr>\n</tbody></table>",
+    sentences: "<ul class=\"one\">\n<li><bdi>fox</bdi>: 100 % MCP 12.0 ha, 4 fixes, day 1 to 106752; over the last q\
+    uarter of the days it grew by 50.0 %</li>\n<li><bdi>owl</bdi>: 100 % MCP 28.0 ha, 3 fixes, day 1 to 12725830; ov\
+    er the last quarter of the days it grew by 100.0 %</li>\n</ul>",
+    animals: "<table id=\"animals\" data-zone=\"UTC\">\n<thead><tr><th rowspan=\"2\"></th><th rowspan=\"2\" class=\"\
+    name\">Animal</th><th class=\"turned\" rowspan=\"2\"><span>in the data</span></th><th class=\"turned\" rowspan=\
+    \"2\"><span>used</span></th><th rowspan=\"2\">First</th><th rowspan=\"2\">Last</th><th rowspan=\"2\">Days</th><t\
+    h colspan=\"2\">Interval</th><th colspan=\"1\">MCP, ha</th></tr>\n<tr><th>median</th><th>longest</th><th>100 %</\
+    th></tr></thead>\n<tbody>\n<tr data-animal=\"fox\"><td class=\"c0 n\" data-field=\"number\">1</td><th><bdi>fox</\
+    bdi></th><td data-field=\"records\">–</td><td data-field=\"used\">4</td><td data-field=\"first\">day 1</td><td d\
+    ata-field=\"last\">day 106752</td><td data-field=\"days\">106,752</td><td data-field=\"median_interval\">9.0 d</\
+    td><td data-field=\"longest_interval\">106,742.0 d</td><td data-field=\"hectares_100\">12.0</td></tr>\n<tr data-\
+    animal=\"owl\"><td class=\"c1 n\" data-field=\"number\">2</td><th><bdi>owl</bdi></th><td data-field=\"records\">\
+    –</td><td data-field=\"used\">3</td><td data-field=\"first\">day 1</td><td data-field=\"last\">day 12725830</td>\
+    <td data-field=\"days\">12,725,829</td><td data-field=\"median_interval\">6,362,914.5 d</td><td data-field=\"lon\
+    gest_interval\">12,619,077.0 d</td><td data-field=\"hectares_100\">28.0</td></tr>\n</tbody></table>",
     overlap: "Pairs of animals that meet: 1 of 1 (a fix of one lies in the 100 % polygon of the other, its edges included)\
     . Most of all <bdi>owl</bdi>: 1 (33 %) of its 3 fixes in the range of <bdi>fox</bdi>.",
     overlaps: "<p class=\"note\">Rows: whose fixes. Columns: in the range of the animal with this number.</p>\n<table id=\"ov\
@@ -204,15 +183,12 @@ pub(crate) const SECONDS: Case = Case {
     r></thead>\n<tbody>\n<tr><td class=\"c0 n\">1</td><th><bdi>fox</bdi></th><td>–</td><td data-animal=\"fox\" dat\
     a-other=\"owl\">1 (25 %)</td></tr>\n<tr><td class=\"c1 n\">2</td><th><bdi>owl</bdi></th><td data-animal=\"owl\
     \" data-other=\"fox\">1 (33 %)</td><td>–</td></tr>\n</tbody></table>",
-    method: "Home ranges are minimum convex polygons (MCP) of 100 % of the fixes; that of all fixes is the on\
-    e of Mohr (1947). They were computed by homerange 1.0.0 from coordinates in whole metres, EPSG:32633 (WGS 84 \
-    / UTM zone 33N). Of n fixes, the polygon at p % has the p per cent of n, rounded up to whole fixes, that lie n\
-    earest to the arithmetic mean of all (of fixes as near, the earlier). Areas are those on the grid. Here they a\
-    re rounded, halves up, to whole hectares, below 100 hectares to three digits, and below 1 hectare they are in \
-    square metres. The area of the 100 % polygon was followed fix by fix (incremental area analysis, Harris et al\
-    . 1990). Here &#8216;last quarter&#8217; is by how much it grew over the last quarter of the fixes, as a shar\
-    e of the final area, and &#8216;95 % since&#8217; is the first fix from which on it stayed at 95 % or more of \
-    the final one.",
+    method: "Home ranges are minimum convex polygons (MCP) of 100 % of the fixes; that of all fixes is the one of M\
+    ohr (1947). They were computed by homerange 1.0.0 from coordinates in whole metres, EPSG:32633 (WGS 84 / UTM zon\
+    e 33N). Of n fixes, the polygon at p % has the p per cent of n, rounded up to whole fixes, that lie nearest to t\
+    he arithmetic mean of all (of fixes as near, the earlier). Areas are those on the grid. Here they are rounded, h\
+    alves up, to whole hectares, below 100 hectares to three digits, and below 1 hectare they are in square metres. \
+    The area of the 100 % polygon was followed fix by fix (incremental area analysis, Harris et al. 1990).",
 };
 
 pub(crate) const MANY_LEVELS: Case = Case {
@@ -224,34 +200,31 @@ pub(crate) const MANY_LEVELS: Case = Case {
     000085\ncorner,fox,6,500010,5000070\ncorner,fox,7,500003,5000049\npercent,fox,10,2,2,0\npercent,fox,20,3,2,0\
     \npercent,fox,30,4,2,0\npercent,fox,40,5,2,0\npercent,fox,50,6,2,0\npercent,fox,60,8,2,0\npercent,fox,95,12,7,\
     11331\npercent,fox,100,12,7,11331\nend,1\n",
-    sentences: "<ul class=\"one\">\n<li><bdi>fox</bdi>: 95 % MCP 5,666 m², 12 fixes, 14 to 15 Nov 2023</li>\n</ul>",
-    animals: "<table id=\"animals\" data-zone=\"UTC\">\n<thead><tr><th rowspan=\"2\"></th><th rowspan=\"2\" class=\"name\">A\
-    nimal</th><th class=\"turned\" rowspan=\"2\"><span>in the data</span></th><th class=\"turned\" rowspan=\"2\"><\
-    span>used</span></th><th rowspan=\"2\">First</th><th rowspan=\"2\">Last</th><th rowspan=\"2\">Days</th><th col\
-    span=\"2\">Interval</th><th>Area curve</th><th colspan=\"2\">95 % since</th></tr>\n<tr><th>median</th><th>long\
-    est</th><th>last<br>quarter</th><th>fix</th><th>date</th></tr></thead>\n<tbody>\n<tr data-animal=\"fox\"><td c\
-    lass=\"c0 n\" data-field=\"number\">1</td><th><bdi>fox</bdi></th><td data-field=\"records\">–</td><td data-fie\
-    ld=\"used\">12</td><td data-field=\"first\">14 Nov 2023</td><td data-field=\"last\">15 Nov 2023</td><td data-f\
-    ield=\"days\">0.5</td><td data-field=\"median_interval\">60 min</td><td data-field=\"longest_interval\">60 min\
-    </td><td data-field=\"last_quarter\">3.7 %</td><td data-field=\"within_95_fix\">9</td><td data-field=\"within_\
-    95_date\">15 Nov 2023</td></tr>\n</tbody></table>\n<table id=\"areas\"><thead><tr><th rowspan=\"2\"></th><th r\
-    owspan=\"2\" class=\"name\">Animal</th><th colspan=\"8\">MCP, ha</th></tr>\n<tr><th>10 %</th><th>20 %</th><th>\
-    30 %</th><th>40 %</th><th>50 %</th><th>60 %</th><th>95 %</th><th>100 %</th></tr></thead>\n<tbody>\n<tr data-an\
-    imal=\"fox\"><td class=\"c0 n\" data-field=\"number\">1</td><th><bdi>fox</bdi></th><td data-field=\"hectares_1\
-    0\">0</td><td data-field=\"hectares_20\">0</td><td data-field=\"hectares_30\">0</td><td data-field=\"hectares_\
-    40\">0</td><td data-field=\"hectares_50\">0</td><td data-field=\"hectares_60\">0</td><td data-field=\"hectares\
-    _95\">5,666 m²</td><td data-field=\"hectares_100\">5,666 m²</td></tr>\n</tbody></table>",
+    sentences: "<ul class=\"one\">\n<li><bdi>fox</bdi>: 95 % MCP 5,666 m², all 12 fixes, 14 to 15 Nov 2023</li>\n</u\
+    l>",
+    animals: "<table id=\"animals\" data-zone=\"UTC\">\n<thead><tr><th rowspan=\"2\"></th><th rowspan=\"2\" class=\"\
+    name\">Animal</th><th class=\"turned\" rowspan=\"2\"><span>in the data</span></th><th class=\"turned\" rowspan=\
+    \"2\"><span>used</span></th><th rowspan=\"2\">First</th><th rowspan=\"2\">Last</th><th rowspan=\"2\">Days</th><t\
+    h colspan=\"2\">Interval</th></tr>\n<tr><th>median</th><th>longest</th></tr></thead>\n<tbody>\n<tr data-animal=\
+    \"fox\"><td class=\"c0 n\" data-field=\"number\">1</td><th><bdi>fox</bdi></th><td data-field=\"records\">–</td><\
+    td data-field=\"used\">12</td><td data-field=\"first\">14 Nov 2023</td><td data-field=\"last\">15 Nov 2023</td><\
+    td data-field=\"days\">0.5</td><td data-field=\"median_interval\">60 min</td><td data-field=\"longest_interval\"\
+    >60 min</td></tr>\n</tbody></table>\n<table id=\"areas\"><thead><tr><th rowspan=\"2\"></th><th rowspan=\"2\" cla\
+    ss=\"name\">Animal</th><th colspan=\"8\">MCP, ha</th></tr>\n<tr><th>10 %</th><th>20 %</th><th>30 %</th><th>40 %<\
+    /th><th>50 %</th><th>60 %</th><th>95 %</th><th>100 %</th></tr></thead>\n<tbody>\n<tr data-animal=\"fox\"><td cla\
+    ss=\"c0 n\" data-field=\"number\">1</td><th><bdi>fox</bdi></th><td data-field=\"hectares_10\">0</td><td data-fie\
+    ld=\"hectares_20\">0</td><td data-field=\"hectares_30\">0</td><td data-field=\"hectares_40\">0</td><td data-fiel\
+    d=\"hectares_50\">0</td><td data-field=\"hectares_60\">0</td><td data-field=\"hectares_95\">5,666 m²</td><td dat\
+    a-field=\"hectares_100\">5,666 m²</td></tr>\n</tbody></table>",
     overlap: "There is one animal, and so no overlap.",
     overlaps: "",
-    method: "Home ranges are minimum convex polygons (MCP) of 100 %, 95 %, 60 %, 50 %, 40 %, 30 %, 20 % and 1\
-    0 % of the fixes; that of all fixes is the one of Mohr (1947). They were computed by homerange 1.0.0 from coor\
-    dinates in whole metres, EPSG:32633 (WGS 84 / UTM zone 33N). Of n fixes, the polygon at p % has the p per cen\
-    t of n, rounded up to whole fixes, that lie nearest to the arithmetic mean of all (of fixes as near, the earli\
-    er). Areas are those on the grid. Here they are rounded, halves up, to whole hectares, below 100 hectares to t\
-    hree digits, and below 1 hectare they are in square metres. The area of the 100 % polygon was followed fix by \
-    fix (incremental area analysis, Harris et al. 1990). Here &#8216;last quarter&#8217; is by how much it grew ov\
-    er the last quarter of the fixes, as a share of the final area, and &#8216;95 % since&#8217; is the first fix \
-    from which on it stayed at 95 % or more of the final one.",
+    method: "Home ranges are minimum convex polygons (MCP) of 100 %, 95 %, 60 %, 50 %, 40 %, 30 %, 20 % and 10 % of \
+    the fixes; that of all fixes is the one of Mohr (1947). They were computed by homerange 1.0.0 from coordinates i\
+    n whole metres, EPSG:32633 (WGS 84 / UTM zone 33N). Of n fixes, the polygon at p % has the p per cent of n, roun\
+    ded up to whole fixes, that lie nearest to the arithmetic mean of all (of fixes as near, the earlier). Areas are \
+    those on the grid. Here they are rounded, halves up, to whole hectares, below 100 hectares to three digits, and \
+    below 1 hectare they are in square metres. The area of the 100 % polygon was followed fix by fix (incremental ar\
+    ea analysis, Harris et al. 1990).",
 };
 
 // Of thirteen animals, of which those with even numbers lie at one place.
@@ -315,8 +288,8 @@ pub(crate) const PAIRS_OF_FORTY_ONE: &str =
     re.</p>\n";
 
 pub(crate) const SAID: &str =
-    " When the fixes were read this was said: “zone: 33N”; “&lt;odd&gt; \\u202e line”; “3 records of fox come before an earlier \
-    one: sorted by time”.";
+    " When the fixes were read this was said: “columns: a, b”; “zone: 33N”; “&lt;odd&gt; \\u202e line”; “3 records of fox \
+    come before an earlier one: sorted by time”.";
 
 pub(crate) const SAID_OF_FOURTEEN: &str =
     " When the fixes were read this was said: “line 0”; “line 1”; “line 2”; “line 3”; “line 4”; “line 5”; “line 6”\
@@ -328,7 +301,7 @@ pub(crate) const SAID_OF_THIRTEEN: &str =
 
 pub(crate) const SAID_OF_NAMED: &str =
     " When the fixes were read this was said: “2 of 9 fixes of records of fox lie 60 km from the others”; “animal &#\
-    x27;columns: a&#x27; is named columns_ a”.";
+    x27;not read: a&#x27; is named not read_ a”.";
 
 pub(crate) const LEFT: &str =
     "Of 12,345 fixes of the export 1,203 were left out: 3 marked as outliers and 1,200 faster than the limit.";

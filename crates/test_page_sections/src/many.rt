@@ -1,9 +1,10 @@
 // Pages of many animals, of which those with even numbers meet.
 
 use crate::cases::{PAIRS_OF_FORTY_ONE, PAIRS_OF_THIRTEEN, SENTENCE_OF_FORTY_ONE};
-use crate::sections::told_of;
+use crate::sections::{basis_by_times, told_of};
 use page_report::{Report, read_report};
 use page_sections::{Shown, Source, push_overlap_sentence, push_overlap_table, push_sentences};
+use range_plane::OutOfMemory;
 use split_clock::Clock;
 use std::alloc::{AllocError, Global};
 
@@ -112,12 +113,14 @@ fn of_very_many_pairs_the_first_are_shown(rt: HostRuntime) {
 }
 
 // One sentence for many animals.
-fn sentence(alloc: Global, report: &Report) -> Result<Vec<u8>, AllocError> {
+fn sentence(alloc: Global, report: &Report) -> Result<Vec<u8>, OutOfMemory> {
     let told = told_of(alloc, report, &[], &[])?;
+    let basis = basis_by_times(alloc, report)?;
     let clock = Clock::utc();
     let shown = Shown {
         report,
         told: &told,
+        basis: &basis,
         causes: &[],
         source: Source::Data,
         dated: true,

@@ -1,6 +1,7 @@
-// Sections of the pages of reports, as the makers in Python write them.
+// Sections of the pages of reports.
 
 use crate::cases::{Case, DECIMETRES, MANY_LEVELS, NAMES, SECONDS, TWO};
+use page_basis::{Basis, basis_of, quoted_level};
 use page_facts::{are_dates, facts_of};
 use page_report::{Report, read_report};
 use page_sections::{
@@ -8,6 +9,7 @@ use page_sections::{
     push_overlap_table, push_sentences,
 };
 use page_tables::Told;
+use range_plane::OutOfMemory;
 use split_clock::Clock;
 use split_tracks::Reason;
 use std::alloc::{AllocError, Global};
@@ -38,6 +40,16 @@ pub(crate) fn told_of(
         })?;
     }
     Ok(told)
+}
+
+// What the areas of animals of a report rest on, whose places are not known.
+pub(crate) fn basis_by_times(alloc: Global, report: &Report) -> Result<Vec<Basis>, OutOfMemory> {
+    let level = quoted_level(report);
+    let mut basis = Vec::new(alloc);
+    for animal in &report.animals {
+        basis.push(basis_of(alloc, animal, level, None)?)?;
+    }
+    Ok(basis)
 }
 
 // The sections of a page, one behind the other.
@@ -81,7 +93,7 @@ fn are_expected(alloc: Global, case: &Case, shown: &Shown) -> bool {
 }
 
 #[test]
-fn sections_are_those_of_the_makers_in_python(rt: HostRuntime) {
+fn sections_are_those_of_their_reports(rt: HostRuntime) {
     let clock = Clock::utc();
     for case in &CASES {
         let Ok(report) = read_report(rt.alloc(), case.report.as_bytes()) else {
@@ -92,9 +104,14 @@ fn sections_are_those_of_the_makers_in_python(rt: HostRuntime) {
             assert!(rt; false, "there is memory");
             return;
         };
+        let Ok(basis) = basis_by_times(rt.alloc(), &report) else {
+            assert!(rt; false, "there is memory");
+            return;
+        };
         let shown = Shown {
             report: &report,
             told: &told,
+            basis: &basis,
             causes: &[],
             source: Source::Data,
             dated: are_dates(&report),
@@ -120,9 +137,14 @@ fn fixes_that_were_left_out_have_columns(rt: HostRuntime) {
         assert!(rt; false, "there is memory");
         return;
     };
+    let Ok(basis) = basis_by_times(rt.alloc(), &report) else {
+        assert!(rt; false, "there is memory");
+        return;
+    };
     let shown = Shown {
         report: &report,
         told: &told,
+        basis: &basis,
         causes: &CAUSES,
         source: Source::Export,
         dated: are_dates(&report),

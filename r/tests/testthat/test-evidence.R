@@ -60,7 +60,7 @@ test_that("evidence has fixes, report, record, tables and checksums", {
                    "--percent 100,75 --unit m -- tracks/old_boar.csv tracks/one.csv tracks/vixen.csv")
   expect_match(about[["program"]], "^homerange [0-9]")
   expect_match(about[["made"]], "^20[0-9-]{8}T[0-9:]{8}Z$")
-  expect_identical(about[c("form", "unit", "levels", "runs")], c(form = "1", unit = "m", levels = "100,75", runs = "1"))
+  expect_identical(about[c("form", "unit", "levels", "runs")], c(form = "2", unit = "m", levels = "100,75", runs = "1"))
   expect_identical(about[["export"]], "fixes.csv")
   expect_false(any(c("notes", "zone", "shift", "crs") %in% names(about)))
 })

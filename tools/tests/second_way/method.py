@@ -22,7 +22,7 @@ PHRASES = {
     "hours": "at other hours", "every": "not the first in their interval", "use": "not in use, as the data said",
     "chosen": "not chosen"}
 MOST_SAID = 12
-NOT_SAID = re.compile(r"columns: |not read: |[0-9]+ fixes of [0-9]+ animals are in ")
+NOT_SAID = re.compile(r"not read: |[0-9]+ fixes of [0-9]+ animals are in ")
 OF_ANIMAL = re.compile("[0-9]+ records of ")  # what is said last
 CHOSEN = "the fixes are not as they were read: "
 SCALE, EARTH = 0.9996, 6_371_008.8  # of UTM in the middle of a zone, and the mean radius in metres
@@ -31,9 +31,7 @@ RULE = (
     "Of n fixes, the polygon at p % has the p per cent of n, rounded up to whole fixes, that lie nearest to the arithmetic mean "
     "of all (of fixes as near, the earlier). Areas are those on the grid. Here they are rounded, halves up, to whole hectares, "
     "below 100 hectares to three digits, and below 1 hectare they are in square metres. The area of the 100 % polygon was "
-    "followed fix by fix (incremental area analysis, Harris et al. 1990). Here \u2018last quarter\u2019 is by how much it grew "
-    "over the last quarter of the fixes, as a share of the final area, and \u201895 % since\u2019 is the first fix from which on "
-    "it stayed at 95 % or more of the final one.")
+    "followed fix by fix (incremental area analysis, Harris et al. 1990).")
 
 
 def records_of(split: Split | None) -> Counter[str]:
@@ -79,7 +77,7 @@ def options_of(split: Split | None) -> str:
 
 
 def said_of(split: Split | None) -> str:
-    """What was said when the fixes were read, but for lines on columns and on files; those on one animal come last."""
+    """What was said when the fixes were read, but for lines on columns that were not read and on files; those on one animal come last."""
     own = [line for line in (split.said if split else ()) if not NOT_SAID.match(line)]
     own.sort(key=lambda line: OF_ANIMAL.match(line) is not None)
     if not own:

@@ -14,6 +14,7 @@ from typing import Iterable, Iterator, Mapping, Sequence
 from homerange_verifier.lines import Counts
 
 from . import shown
+from .basis import Basis
 from .facts import Animal, reasons_of
 from .html_blocks import Block, Blocks, blanked
 from .method import ground, method, records_of, source_of
@@ -38,6 +39,17 @@ HEADINGS = {
     "type": "type of fix", "before": "before period", "after": "after period", "grid": "off the grid",
     "speed": "too fast", "months": "other months", "hours": "other hours", "every": "interval", "use": "not in use",
     "chosen": "not chosen"}
+
+
+GROWTH = (
+    "Last quarter: by how much the area grew over the last quarter of the time or of the fixes, as a share of the final area, less "
+    "than nothing where it fell. Since: the first day, or the first fix, from which on the area was 95 % or more of the final one; "
+    "days are periods of 24 hours from the first fix on. One fix: the one without which the 100 % polygon is smallest, and the share "
+    "of its area that this fix makes.")
+SAMPLING = (
+    "Places: how many different ones the fixes have. There twice: fixes with the second and the place of one before them. Two places "
+    "at once: how many places more than one there are at one second, of all seconds. Half of the fixes: in how few days they are, of "
+    "all days; days are periods of 24 hours from the first fix on. Fastest step: from a fix to the next.")
 
 
 def th(*texts: str) -> list[Block]:
@@ -116,7 +128,7 @@ class Wanted:
 
     def sentences(self) -> list[Block]:
         """What is said of each animal, of many in one sentence."""
-        level = 95 if 95 in self.run.levels else max(self.run.levels)
+        level = self.level()
         areas = [animal.percents[level].hull.area2 for animal in self.animals]
         if len(areas) > MOST_SENTENCES:
             order = sorted(range(len(areas)), key=areas.__getitem__)
@@ -127,11 +139,18 @@ class Wanted:
         found = []
         for animal, name, area2 in zip(self.animals, self.names, areas):
             kept = animal.percents[level].kept
-            of = f"{shown.number(kept)} of " if kept < animal.used else ""
+            of = f"{shown.number(kept)} of " if kept < animal.used else "all " * (level < 100 and kept > 1)
             found.append(Block("li", "", blanked(
                 f"{name}: {level} % MCP {self.area(area2) if area2 else 'has no area'}, {of}{shown.fixes(animal.used)}, "
-                f"{self.clock.period(animal.first, animal.last)}")))
+                f"{self.clock.period(animal.first, animal.last)}{self.basis(animal).caveats(self.source)}")))
         return found
+
+    def level(self) -> int:
+        """The level that is quoted."""
+        return 95 if 95 in self.run.levels else max(self.run.levels)
+
+    def basis(self, animal: Animal) -> Basis:
+        return Basis(animal, self.level(), self.run.unit, self.clock)
 
     def area(self, area2: int) -> str:
         return shown.area(area2, self.run.unit)
@@ -143,17 +162,32 @@ class Wanted:
         percents = [f"{level} %" for level in levels]
         found = th(
             "", "Animal", f"in the {self.source}", *["Left out"] * bool(reasons), "used", "First",
-            "Last", "Days", "Interval", *["MCP, ha"] * is_one, "Area curve", "95 % since",
-            *(HEADINGS[reason] for reason in reasons), "median", "longest", *(percents if is_one else ()),
-            "last quarter", "fix", "date")
+            "Last", "Days", "Interval", *["MCP, ha"] * is_one,
+            *(HEADINGS[reason] for reason in reasons), "median", "longest", *(percents if is_one else ()))
         for animal, name in zip(self.animals, self.names):
-            fields = {**self.facts(animal, reasons), **(self.areas(animal) if is_one else {}), **self.curve(animal)}
-            found += self.row(animal, name, fields)
+            found += self.row(animal, name, {**self.facts(animal, reasons), **(self.areas(animal) if is_one else {})})
         if not is_one:
             found += th("", "Animal", "MCP, ha", *percents)
             for animal, name in zip(self.animals, self.names):
                 found += self.row(animal, name, self.areas(animal))
-        return found
+        return [*found, *self.growth(), *self.sampling()]
+
+    def growth(self) -> list[Block]:
+        """The table of how areas grew, and what its words mean."""
+        last, level = ("last quarter of the days", "of the fixes", "since day"), self.level()
+        quoted = level < 100
+        found = th("", "Animal", *[f"{level} % MCP"] * quoted, "100 % MCP", "One fix", *last * quoted, *last, "since fix", "date",
+                   "date", "makes")
+        for animal, name in zip(self.animals, self.names):
+            found += self.row(animal, name, self.basis(animal).growth())
+        return [*found, Block("p", "", GROWTH)]
+
+    def sampling(self) -> list[Block]:
+        """The table of when and where fixes are, and what its words mean."""
+        found = th("", "Animal", "Places", "there twice", "two places at once", "half of the fixes in", "longest gap", "fastest step")
+        for animal, name in zip(self.animals, self.names):
+            found += self.row(animal, name, self.basis(animal).sampling())
+        return [*found, Block("p", "", SAMPLING)]
 
     def row(self, animal: Animal, name: str, fields: Mapping[str, str]) -> list[Block]:
         cells = [Block("td", f"{field} of {animal.name}", text) for field, text in fields.items()]
@@ -174,14 +208,6 @@ class Wanted:
     def areas(self, animal: Animal) -> dict[str, str]:
         return {f"hectares_{level}": shown.hectares(animal.percents[level].hull.area2, self.run.unit)
                 for level in self.run.levels}
-
-    def curve(self, animal: Animal) -> dict[str, str]:
-        """What the curve of an animal says."""
-        within = animal.within
-        return {
-            "last_quarter": shown.share(animal.quarter, animal.area2),
-            "within_95_fix": shown.number(within) if within else shown.NOTHING,
-            "within_95_date": self.clock.date(animal.seconds[within - 1]) if within else shown.NOTHING}
 
     def captions(self) -> list[Block]:
         """What stands above each curve: of many animals less."""
