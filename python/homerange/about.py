@@ -18,7 +18,7 @@ from .report import TEXT
 FORM = 2  # of tables, layers, page, record and evidence.txt: another byte that their makers write takes another number
 MOMENT = "%Y-%m-%dT%H:%M:%SZ"
 FIRST = ("form", "made", "program", "program sha256", "arguments", "unit", "levels", "runs", "commit", "sources", "logic")
-TYPED = ("title", "study", "species", "by")
+TYPED = ("title", "study", "species", "by", "reference", "purpose")
 OTHERS = ("export", "export sha256", "crs", "shift", *TYPED, "day", "boundary", "clock")
 SHIFT = re.compile("(-?[0-9]{1,9}),(-?[0-9]{1,9})")
 BESIDE = "not known, since it does not stand beside the program"  # where there is no SOURCES
@@ -43,6 +43,8 @@ class Words(NamedTuple):
     study: str | None = None
     species: str | None = None
     by: str | None = None
+    reference: str | None = None
+    purpose: str | None = None
     day: str | None = None
     boundary: str | None = None
     clock: str | None = None

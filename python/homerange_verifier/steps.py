@@ -12,7 +12,7 @@ from pathlib import Path
 from shutil import copyfile, copytree
 from typing import Callable, Sequence
 
-from homerange.about import BESIDE, FORM, About, read_about, text_of
+from homerange.about import BESIDE, FORM, TYPED, About, read_about, text_of
 from homerange.errors import HomeRangeError
 from homerange.record import Record, read_record, record_text
 from homerange.zones import CODE
@@ -470,7 +470,7 @@ class Verification:
         about, words = self.about, self.about.words
         system = self.split.crs_text if self.split else None
         has_code = system is not None and CODE.fullmatch(system) is not None
-        typed = [name for name in ("crs", "title", "study", "species", "by", "day", "boundary", "clock") if getattr(words, name)]
+        typed = [name for name in ("crs", *TYPED, "day", "boundary", "clock") if getattr(words, name)]
         typed += [f"the option {name}" for name in TEXTS if self.split and name in dict(self.split.options)]
         typed += ["the option crs"] * (system is not None and not has_code)
         typed += ["the name of the export"] * (self.split is not None and self.split.export is not None)

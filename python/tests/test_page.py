@@ -109,17 +109,18 @@ def test_what_a_user_typed_is_text(tmp_path):
     ranges = home_range(frame_of(**animals))
     own = [ranges.tracks.names.get(name, name) for name in names]
     with told(f"^animal '{'A' * 300}' is named {own[4]}$"):
-        page = page_of(ranges, tmp_path, title=BAD, study="{{maps}}", species="<img src=x>", by="a\nb\x01")
+        page = page_of(ranges, tmp_path, title=BAD, study="{{maps}}", species="<img src=x>", by="a\nb\x01", reference="7 & 8",
+                       purpose="<b>")
     assert "script" not in page.tags and "img" not in page.tags and "b" not in page.order
     assert page.all("title") == page.all("h1") == [BAD.replace("\u202e", "\\u202e")]
     assert sorted(page.animals) == sorted(own) and own[1:4] == ["_b_&", "{{title}}", "ذئب"]
     assert {name for pair in page.overlaps for name in pair} == {*own}
-    for text in ("Study: {{maps}}", "Species: <img src=x>", "By: a\\x0ab\\x01"):
+    for text in ("Study: {{maps}}", "Species: <img src=x>", "By: a\\x0ab\\x01", "Reference: 7 & 8", "Purpose: <b>"):
         assert text in page.text
 
 
 @pytest.mark.parametrize("text", ["a\0b", "\udcff", "fox \ud83d"])
-@pytest.mark.parametrize("name", ["title", "study", "species", "by"])
+@pytest.mark.parametrize("name", ["title", "study", "species", "by", "reference", "purpose"])
 def test_what_no_page_can_have_is_refused(tmp_path, name, text):
     ranges = home_range(frame_of(a=HERD["pup"]))
     for call in (lambda: write_page(ranges, tmp_path / "page.html", **{name: text}), lambda: ranges.evidence(tmp_path / "e", **{name: text})):

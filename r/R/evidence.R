@@ -60,13 +60,14 @@ local_plain <- function(frame = parent.frame()) {
   set
 }
 
-fill_evidence <- function(x, folder, program, title = NULL, study = NULL, species = NULL, by = NULL, reserve = NULL,
-                          reserve_name = NULL, tz = NULL, made = NULL) {
-  check_typed(list(title = title, study = study, species = species, by = by, boundary = reserve_name), made, reserve)
+fill_evidence <- function(x, folder, program, title = NULL, study = NULL, species = NULL, by = NULL, reference = NULL,
+                          purpose = NULL, reserve = NULL, reserve_name = NULL, tz = NULL, made = NULL) {
+  typed <- list(title = title, study = study, species = species, by = by, reference = reference, purpose = purpose)
+  check_typed(c(typed, list(boundary = reserve_name)), made, reserve)
   zone <- zone_of_page(x, tz)
   rings <- rings_given(x, reserve)
-  words <- list(title = title, study = study, species = species, by = by, day = if (!is.null(made)) format(made, "%Y-%m-%d"),
-                boundary = if (!is.null(rings)) if (is_given(reserve_name)) reserve_name else "boundary")
+  words <- c(typed, list(day = if (!is.null(made)) format(made, "%Y-%m-%d"),
+                         boundary = if (!is.null(rings)) if (is_given(reserve_name)) reserve_name else "boundary"))
   names <- put_tracks(x, folder)
   record <- record_in(file.path(folder, "tracks"))
   now <- Sys.time()

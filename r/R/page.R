@@ -1,16 +1,17 @@
 # Has homerange-page write the tables and the page of a folder, and the page of ranges in memory by way of such a folder.
 
 # Writes the page.
-write_page <- function(x, path, title = NULL, study = NULL, species = NULL, by = NULL, reserve = NULL, reserve_name = NULL,
-                       tz = NULL, made = NULL, overwrite = FALSE, ...) {
+write_page <- function(x, path, title = NULL, study = NULL, species = NULL, by = NULL, reference = NULL, purpose = NULL,
+                       reserve = NULL, reserve_name = NULL, tz = NULL, made = NULL, overwrite = FALSE, ...) {
   check_dots(...)
-  local_options(x, path, title, study, species, by, reserve, reserve_name, tz, made, overwrite)
+  local_options(x, path, title, study, species, by, reference, purpose, reserve, reserve_name, tz, made, overwrite)
   check_ranges(x)
   check_whole(x, "a page")
   check_path(path)
   check_truth(overwrite, "overwrite")
   if (!grepl("[.]html?$", in_small(path))) refuse("option", argument_text("path", path), ": a name that ends in .html or .htm is wanted")
-  words <- list(title = title, study = study, species = species, by = by, boundary = reserve_name)
+  words <- list(title = title, study = study, species = species, by = by, reference = reference, purpose = purpose,
+                boundary = reserve_name)
   check_typed(words, made, reserve)
   zone <- zone_of_page(x, tz)
   rings <- rings_given(x, reserve)

@@ -7,7 +7,7 @@ method text with references, and checksums.
 }
 \usage{
 write_page(x, path, title = NULL, study = NULL, species = NULL, by = NULL,
-           reserve = NULL, reserve_name = NULL, tz = NULL, made = NULL,
+           reference = NULL, purpose = NULL, reserve = NULL, reserve_name = NULL, tz = NULL, made = NULL,
            overwrite = FALSE, ...)
 }
 \arguments{
@@ -15,6 +15,7 @@ write_page(x, path, title = NULL, study = NULL, species = NULL, by = NULL,
 \item{path}{the file, such as \code{report.html}, whose name ends in \code{.html} or \code{.htm}. A page that was written before is
   written over.}
 \item{title, study, species, by}{text for the head of the page.}
+\item{reference, purpose}{the reference of the case that the page belongs to, such as its file number, and what the page is for.}
 \item{reserve, reserve_name}{a boundary for the map, as \code{\link{homerange_share}} takes it, and what it is called.}
 \item{tz}{the time zone of dates; if left out, that of the ranges.}
 \item{made}{the day of making, a \code{Date}; if left out, today.}

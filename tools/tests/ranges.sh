@@ -92,14 +92,14 @@ END
 "coordinates": [[[15.80, 46.35], [15.82, 46.35], [15.82, 46.36], [15.80, 46.36], [15.80, 46.35]]]}}]}
 END
     holds 'ranges with a page of ones own' "$make" --title 'Boar & "vixen"' --study="--wood's" --species 'Sus scrofa, <i>Vulpes' \
-        --by Ana --over plan/wood.geojson --clock Pacific/Honolulu "$top/examples/export.csv" plan/page
+        --by Ana --reference '7 & 8' --purpose permit --over plan/wood.geojson --clock Pacific/Honolulu "$top/examples/export.csv" plan/page
     holds 'the page has what was typed in' python3 -c '
 import pathlib, sys
 sys.path.insert(0, sys.argv[1])
 from pages import Page
 page = Page(pathlib.Path("plan/page/report.html"))
 assert page.all("h1") == ["Boar & \"vixen\""]
-for text in ("Study: --wood'"'"'s", "Species: Sus scrofa, <i>Vulpes", "By: Ana", "wood"):
+for text in ("Study: --wood'"'"'s", "Species: Sus scrofa, <i>Vulpes", "By: Ana", "Reference: 7 & 8", "Purpose: permit", "wood"):
     assert text in page.text, text
 assert page.animals["old boar"]["first"] == "30 Apr 2024"
 assert page.fields["period"] == "30 Apr 2024 (dates of Pacific/Honolulu)"
@@ -107,7 +107,7 @@ assert page.animals["vixen"]["left_coordinates"] == "1"
 assert ("class", "boundary") in page.attributes' "$top/python/tests"
     holds 'the page is verified' verify_ranges plan/page "$top/examples/export.csv"
     holds 'what was typed in is named' \
-        grep -qx 'not known: whether what was typed in is right: title, study, species, by, boundary, clock and the name of the export' verified
+        grep -qx 'not known: whether what was typed in is right: title, study, species, by, reference, purpose, boundary, clock and the name of the export' verified
     holds 'the page has the checksum of its report' grep -qF "$(sha256sum <plan/page/report.txt | cut -c 1-64)" plan/page/report.html
     holds 'the page has the checksum of the export' \
         grep -qF "$(sha256sum <"$top/examples/export.csv" | cut -c 1-64)" plan/page/report.html

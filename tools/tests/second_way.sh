@@ -26,8 +26,8 @@ elif python3 -c 'import geopandas, matplotlib, pyproj' 2>errors; then
     holds 'of longitude and latitude, by another clock' "$make" --clock Pacific/Honolulu honest/degrees.csv honest/degrees
     holds 'of one animal, in decimetres' "$make" --unit dm --percent 100 honest/one.csv honest/one
     holds 'of odd names, at eight levels, with all that can be typed in' "$make" --percent 1,20,35,50,75,90,95,100 \
-        --title 'Boar & "vixen" \x41' --study="--wood's" --species 'Sus, <i>Vulpes' --by Ana --over honest/wood.geojson \
-        honest/names.csv honest/names
+        --title 'Boar & "vixen" \x41' --study="--wood's" --species 'Sus, <i>Vulpes' --by Ana --reference '7 & \8' --purpose permit \
+        --over honest/wood.geojson honest/names.csv honest/names
     holds 'of a grid without a zone, with marked outliers' "$make" --mark --percent 95,50 honest/grid.csv honest/grid
     for folder in honest/*/; do
         holds "a second way to ${folder%/}" second_way "$folder"

@@ -21,6 +21,8 @@ fn typed<'a>(words: &'a PageWords<'a>) -> page_html::Words<'a> {
         study: bytes(words.study),
         species: bytes(words.species),
         by: bytes(words.by),
+        reference: bytes(words.reference),
+        purpose: bytes(words.purpose),
         boundary: bytes(words.boundary),
     }
 }

@@ -1,14 +1,18 @@
-// The head of the page: its title, what was typed in, the time of the fixes, and when it was made.
+// The head of the page: its title, what stands at the foot of each sheet, what was typed in, the time of the fixes, and when it was
+// made.
 
 use crate::page::Page;
-use crate::template::{BEFORE_HEADING, BEFORE_MADE, BEFORE_PERIOD, BEFORE_TITLE, BEFORE_TYPED};
+use crate::template::{
+    BEFORE_DIGITS, BEFORE_FOOT, BEFORE_HEADING, BEFORE_MADE, BEFORE_PERIOD, BEFORE_TITLE,
+    BEFORE_TYPED,
+};
 use crate::words::Words;
 use page_dates::{date_of_day, push_day, push_period};
 use page_report::ReadAnimal;
 use page_sections::Shown;
 use page_tables::Told;
-use page_text::{between, push_escaped, push_named, push_whole};
-use std::alloc::AllocError;
+use page_text::{between, push_escaped, push_named, push_whole, styled};
+use std::alloc::{AllocError, Global};
 
 // The seconds of a day.
 const DAY: u128 = 86_400;
@@ -16,31 +20,56 @@ const DAY: u128 = 86_400;
 // How many animals have their names in the heading.
 const MOST_NAMED: usize = 3;
 
-// Appends the names of animals, as text.
-fn push_names(text: &mut Vec<u8>, animals: &[ReadAnimal]) -> Result<(), AllocError> {
+// How many characters of the title stand at the foot of each sheet, and how many digits of the report's checksum.
+const MOST_AT_FOOT: usize = 80;
+
+const DIGITS: usize = 16;
+
+// Appends the names of animals.
+fn push_names(title: &mut Vec<u8>, animals: &[ReadAnimal]) -> Result<(), AllocError> {
     for (place, animal) in animals.iter().enumerate() {
-        push_escaped(text, &animal.name)?;
-        text.extend_from_slice(between(animals.len() - place - 1).as_bytes())?;
+        title.extend_from_slice(&animal.name)?;
+        title.extend_from_slice(between(animals.len() - place - 1).as_bytes())?;
     }
     Ok(())
 }
 
-// Appends the title that a page of these animals has where none was typed in.
-fn push_usual_title(text: &mut Vec<u8>, animals: &[ReadAnimal]) -> Result<(), AllocError> {
-    text.extend_from_slice(b"Home ranges of ")?;
+// The title that a page of these animals has where none was typed in.
+fn usual_title(alloc: Global, animals: &[ReadAnimal]) -> Result<Vec<u8>, AllocError> {
+    let mut title = Vec::from_slice(alloc, b"Home ranges of ")?;
     if animals.len() <= MOST_NAMED {
-        return push_names(text, animals);
+        push_names(&mut title, animals)?;
+    } else {
+        push_whole(&mut title, animals.len() as u128)?;
+        title.extend_from_slice(b" animals")?;
     }
-    push_whole(text, animals.len() as u128)?;
-    text.extend_from_slice(b" animals")
+    Ok(title)
 }
 
-// Appends the title.
-fn push_title(text: &mut Vec<u8>, page: &Page) -> Result<(), AllocError> {
+// The title, as it was typed in or as animals are called.
+fn title_of(alloc: Global, page: &Page) -> Result<Vec<u8>, AllocError> {
     match page.words.title {
-        Some(title) => push_escaped(text, title),
-        None => push_usual_title(text, &page.shown.report.animals),
+        Some(title) => Vec::from_slice(alloc, title),
+        None => usual_title(alloc, &page.shown.report.animals),
     }
+}
+
+// Appends the title to a style sheet. One that is no UTF-8 is left out.
+fn push_foot(alloc: Global, text: &mut Vec<u8>, title: &[u8]) -> Result<(), AllocError> {
+    match str::from_utf8(title) {
+        Ok(title) => text.extend_from_slice(&styled(alloc, title, MOST_AT_FOOT)?),
+        Err(_no_text) => Ok(()),
+    }
+}
+
+// Appends the first digits of the checksum of the report, if it has one.
+fn push_digits(text: &mut Vec<u8>, sum: Option<&[u8]>) -> Result<(), AllocError> {
+    let Some(sum) = sum else {
+        return Ok(());
+    };
+    text.extend_from_slice(b"report.txt ")?;
+    text.extend_from_slice(&sum[..sum.len().min(DIGITS)])?;
+    text.extend_from_slice(b", ")
 }
 
 // Appends what was typed in under a name, if something was.
@@ -59,7 +88,9 @@ fn push_typed(text: &mut Vec<u8>, name: &[u8], words: Option<&[u8]>) -> Result<(
 fn push_all_typed(text: &mut Vec<u8>, words: &Words) -> Result<(), AllocError> {
     push_typed(text, b"Study", words.study)?;
     push_typed(text, b"Species", words.species)?;
-    push_typed(text, b"By", words.by)
+    push_typed(text, b"By", words.by)?;
+    push_typed(text, b"Reference", words.reference)?;
+    push_typed(text, b"Purpose", words.purpose)
 }
 
 // The seconds of the first and of the last fix of all animals.
@@ -120,14 +151,22 @@ fn push_later(text: &mut Vec<u8>, page: &Page) -> Result<(), AllocError> {
     }
 }
 
-// Appends the head of the page.
-pub(crate) fn push_head(text: &mut Vec<u8>, page: &Page) -> Result<(), AllocError> {
+// Appends the title, and what stands at the foot of each sheet.
+fn push_titles(alloc: Global, text: &mut Vec<u8>, page: &Page) -> Result<(), AllocError> {
+    let title = title_of(alloc, page)?;
     text.extend_from_slice(BEFORE_TITLE)?;
-    push_title(text, page)?;
+    push_escaped(text, &title)?;
+    text.extend_from_slice(BEFORE_FOOT)?;
+    push_foot(alloc, text, &title)?;
+    text.extend_from_slice(BEFORE_DIGITS)?;
+    push_digits(text, page.report_sum)?;
     text.extend_from_slice(BEFORE_HEADING)?;
-    text.extend_from_slice(b"<bdi>")?;
-    push_title(text, page)?;
-    text.extend_from_slice(b"</bdi>")?;
+    push_named(text, &title)
+}
+
+// Appends the head of the page.
+pub(crate) fn push_head(alloc: Global, text: &mut Vec<u8>, page: &Page) -> Result<(), AllocError> {
+    push_titles(alloc, text, page)?;
     text.extend_from_slice(BEFORE_TYPED)?;
     push_all_typed(text, &page.words)?;
     text.extend_from_slice(BEFORE_PERIOD)?;

@@ -43,6 +43,6 @@ pub struct Page<'a> {
 ///
 /// Memory ran out.
 pub fn push_page(alloc: Global, text: &mut Vec<u8>, page: &Page) -> Result<(), AllocError> {
-    push_head(text, page)?;
+    push_head(alloc, text, page)?;
     push_body(alloc, text, page)
 }

@@ -8,9 +8,17 @@ pub(crate) const BEFORE_TITLE: &[u8] = br##"<!DOCTYPE html>
 <meta name="viewport" content="width=device-width, initial-scale=1">
 <title>"##;
 
-pub(crate) const BEFORE_HEADING: &[u8] = br##"</title>
+pub(crate) const BEFORE_FOOT: &[u8] = br##"</title>
 <style>
-@page { size: A4; margin: 12mm 12mm 13mm; }
+@page { size: A4; margin: 12mm 12mm 16mm;
+  @bottom-left { content: ""##;
+
+pub(crate) const BEFORE_DIGITS: &[u8] = br##"";
+    width: 62%; text-align: left; font: 8pt sans-serif; color: #333; vertical-align: top; padding-top: 3mm; }
+  @bottom-right { content: ""##;
+
+pub(crate) const BEFORE_HEADING: &[u8] = br##"sheet " counter(page) " of " counter(pages);
+    width: 38%; text-align: right; font: 8pt sans-serif; color: #333; vertical-align: top; padding-top: 3mm; } }
 * { box-sizing: border-box; }
 body { margin: 0 auto; max-width: 194mm; padding: 6mm 4mm; color: #111; background: #fff;
   font: 9.2pt/1.35 system-ui, "Segoe UI", "Helvetica Neue", Arial, "Liberation Sans", "Noto Sans", "DejaVu Sans", sans-serif; }
@@ -25,6 +33,8 @@ li { overflow-wrap: anywhere; break-inside: avoid; }
 .note, .key { font-size: 8pt; color: #333; }
 .whole { break-inside: avoid; }
 p { orphans: 3; widows: 3; }
+.sign { display: grid; grid-template-columns: 1fr 1fr; column-gap: 8mm; }
+.sign p { margin: 11mm 0 0; border-top: 0.3mm solid #444; font-size: 8pt; color: #333; }
 .key { overflow-wrap: anywhere; }
 .key span { margin-right: 3.5mm; }
 .key .line { white-space: nowrap; }
@@ -192,6 +202,16 @@ pub(crate) const BEFORE_VERIFY: &[u8] = br##"
 <p>"##;
 
 pub(crate) const BEHIND_VERIFY: &[u8] = br##"</p>
+</section>
+<section class="whole">
+<h2>Signature</h2>
+<div class="sign">
+<p>Place</p>
+<p>Day</p>
+<p>Name</p>
+<p>Office</p>
+<p>Signature</p>
+</div>
 </section>
 </body>
 </html>

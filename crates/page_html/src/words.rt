@@ -9,6 +9,10 @@ pub struct Words<'a> {
     pub species: Option<&'a [u8]>,
     /// Who made the page.
     pub by: Option<&'a [u8]>,
+    /// The number or the name of the case that the page belongs to.
+    pub reference: Option<&'a [u8]>,
+    /// What the page is for.
+    pub purpose: Option<&'a [u8]>,
     /// What the boundary is called.
     pub boundary: Option<&'a [u8]>,
 }

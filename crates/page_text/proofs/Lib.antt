@@ -3,3 +3,4 @@ mod CellFacts
 mod FigureFacts
 mod HarmlessFacts
 mod ShownFacts
+mod StyledFacts

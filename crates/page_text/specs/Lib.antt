@@ -2,3 +2,4 @@ pub mod Cells
 pub mod Figures
 pub mod Laws
 pub mod Shown
+pub mod Styled

@@ -8,6 +8,7 @@ mod fixed;
 mod laws;
 mod listed;
 mod shown;
+mod style;
 mod times;
 
 pub use cells::push_cell;
@@ -21,4 +22,5 @@ pub use laws::{
 };
 pub use listed::{between, push_listed};
 pub use shown::{push_attribute, push_escaped, push_named};
+pub use style::styled;
 pub use times::{push_days, push_interval};

@@ -69,7 +69,7 @@ fn wide_code(text: &[u8]) -> u16
 }
 
 // Whether a code is that of a separator of lines, or of a character that is not seen or turns the direction of writing.
-fn is_hidden(code: u16) -> bool
+pub(crate) fn is_hidden(code: u16) -> bool
     ensures { result ≡ is_hidden code }
 {
     matches!(code, 0x200B | 0x200E | 0x200F | 0x2028..=0x202E | 0x2060..=0x2069 | 0xFEFF)

@@ -24,6 +24,8 @@ fn with_words<'a>(alloc: Global, command: Command<'a>) -> Result<Command<'a>, Al
         .arg(text_option(alloc, "study", "TEXT"))?
         .arg(text_option(alloc, "species", "TEXT"))?
         .arg(text_option(alloc, "by", "TEXT"))?
+        .arg(text_option(alloc, "reference", "TEXT"))?
+        .arg(text_option(alloc, "purpose", "TEXT"))?
         .arg(text_option(alloc, "boundary-name", "TEXT"))
 }
 

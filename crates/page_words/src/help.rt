@@ -31,6 +31,8 @@ Options:
       --study <TEXT>           Study that the page belongs to
       --species <TEXT>         Species of the animals
       --by <TEXT>              Who made the page
+      --reference <TEXT>       Reference of the case, such as its file number
+      --purpose <TEXT>         What the page is for
       --boundary-name <TEXT>   What the boundary is called [default: boundary]
       --clock <ZONE>           Zone of dates, such as Europe/Ljubljana
                                [default: UTC]

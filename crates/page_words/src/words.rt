@@ -17,6 +17,10 @@ pub struct PageWords<'a> {
     pub species: Option<&'a str>,
     /// Who made the page.
     pub by: Option<&'a str>,
+    /// The number or the name of the case that the page belongs to.
+    pub reference: Option<&'a str>,
+    /// What the page is for.
+    pub purpose: Option<&'a str>,
     /// What the boundary is called.
     pub boundary: Option<&'a str>,
     /// The name of the zone of dates, which is one that a zone may have.
@@ -63,6 +67,8 @@ fn words_in<'a>(alloc: Global, matches: &ArgMatches<'a>) -> Result<PageWords<'a>
         study: text_in(matches, "study"),
         species: text_in(matches, "species"),
         by: text_in(matches, "by"),
+        reference: text_in(matches, "reference"),
+        purpose: text_in(matches, "purpose"),
         boundary: text_in(matches, "boundary-name"),
         clock: clock_in(alloc, matches.get_str("clock"))?,
         system: text_in(matches, "system"),

@@ -34,6 +34,8 @@ pub(crate) fn typed(clock: &Clock) -> Words<'_> {
             study: None,
             species: None,
             by: Some(b"me"),
+            reference: Some(b"7 & 8"),
+            purpose: None,
             boundary: Some(b"Park"),
         },
         made: Made {

@@ -1,8 +1,9 @@
 // Tests of texts of users. What is expected was computed by `escaped`, `attribute`, `named` and `listed` of formats.py, and by
-// `shown_cell` of output.py with Python's csv.writer; that of a carriage return by the rule that a reader may end a line there.
+// `shown_cell` of output.py with Python's csv.writer; that of a carriage return by the rule that a reader may end a line there;
+// that of a style sheet by Python's re.
 
 use crate::written::is_written;
-use page_text::{push_attribute, push_cell, push_escaped, push_listed, push_named};
+use page_text::{push_attribute, push_cell, push_escaped, push_listed, push_named, styled};
 
 // Texts, and what is shown of them.
 const SHOWN: [(&[u8], &[u8]); 13] = [
@@ -54,6 +55,37 @@ const CELLS: [(&str, &str); 18] = [
     ("Łódź", "Łódź"),
     ("a b", "a b"),
 ];
+
+// Texts, how many characters of them there may be, and what a style sheet has of them.
+const STYLED: [(&str, usize, &str); 8] = [
+    ("Ranges of 2026", 80, "Ranges of 2026"),
+    ("", 80, ""),
+    (
+        "\"</style>{}\\41",
+        80,
+        "\\000022 \\00003c \\00002f style\\00003e \\00007b \\00007d \\00005c 41",
+    ),
+    (
+        "a\nb\u{0}\u{7f}\u{85}\u{202e}\u{200b}\u{feff}",
+        80,
+        "a\\00fffd b\\00fffd \\00fffd \\00fffd \\00fffd \\00fffd \\00fffd ",
+    ),
+    ("Łódź 🦊", 80, "\\000141 \\0000f3 d\\00017a  \\01f98a "),
+    ("abcdef", 6, "abcdef"),
+    ("abcdef", 5, "abcde\\002026 "),
+    ("ab", 0, "\\002026 "),
+];
+
+#[test]
+fn texts_end_no_string_of_a_style_sheet(rt: HostRuntime) {
+    for (value, most, expected) in STYLED {
+        let text = styled(rt.alloc(), value, most);
+        assert!(rt;
+            text.is_ok_and(|text| text.as_slice() == expected.as_bytes()),
+            "{value:?}"
+        );
+    }
+}
 
 #[test]
 fn texts_are_shown_without_markup(rt: HostRuntime) {

@@ -45,7 +45,7 @@ PICTURES = ("curves.png", "ranges.png")
 MANY = 12  # animals whose curves are drawn into one picture at most
 NEEDED = ("geopandas", "matplotlib")
 HELP = dict(zip(TYPED, ("the title of the page", "the study that the page names", "the species that the page names",
-                        "who made the page")))
+                        "who made the page", "the reference of the case, such as its file number", "what the page is for")))
 
 
 def check_libraries() -> None:
@@ -105,8 +105,8 @@ def check_links(folder: Path) -> None:
 def words_of(options: argparse.Namespace, clock: str) -> Words:
     """What was typed in for the page."""
     zone_of_time(clock)
-    return Words(title=options.title or None, study=options.study or None, species=options.species or None, by=options.by or None,
-                 boundary=options.over and options.over.stem, clock=clock)
+    typed = {name: getattr(options, name) or None for name in TYPED}
+    return Words(**typed, boundary=options.over and options.over.stem, clock=clock)
 
 
 def main(name: str = "homerange-tables") -> None:

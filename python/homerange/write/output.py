@@ -23,7 +23,7 @@ from .page import refuse_name_alone, words_beside, words_typed
 from .results import write_results
 from .tracks import put_tracks, renamed, said_of_tracks
 
-ARGUMENTS = ("title", "study", "species", "by", "reserve", "reserve_name", "tz", "made")  # of the page
+ARGUMENTS = ("title", "study", "species", "by", "reference", "purpose", "reserve", "reserve_name", "tz", "made")  # of the page
 
 
 def tracks_of(ranges: HomeRanges) -> Tracks:

@@ -30,17 +30,19 @@ TABLES = ("summary.csv", "animals.csv", "overlaps.csv")
 
 
 def words_typed(title: str | None = None, study: str | None = None, species: str | None = None, by: str | None = None,
-                reserve_name: str | None = None, made: date | None = None) -> Words:
+                reference: str | None = None, purpose: str | None = None, reserve_name: str | None = None,
+                made: date | None = None) -> Words:
     """What was typed in for a page; what is no text, and no day, is refused."""
-    for name, text in (("title", title), ("study", study), ("species", species), ("by", by), ("reserve_name", reserve_name)):
+    for name, text in (("title", title), ("study", study), ("species", species), ("by", by), ("reference", reference),
+                       ("purpose", purpose), ("reserve_name", reserve_name)):
         if text is not None and not isinstance(text, str):
             refuse(f"{name}={text!r} is no text")
         if text is not None and not is_word(text):
             refuse(f"{name}={text!r} is no text in UTF-8 without a zero byte: mend it")
     if made is not None and (not isinstance(made, date) or made != made):
         refuse(f"made={shown(made)} is no date")
-    return Words(title=title or None, study=study or None, species=species or None, by=by or None, boundary=reserve_name or None,
-                 day=made.strftime("%Y-%m-%d").zfill(10) if made else None)
+    return Words(title=title or None, study=study or None, species=species or None, by=by or None, reference=reference or None,
+                 purpose=purpose or None, boundary=reserve_name or None, day=made.strftime("%Y-%m-%d").zfill(10) if made else None)
 
 
 def is_word(text: str) -> bool:
@@ -124,13 +126,14 @@ def put_ranges(ranges: HomeRanges, folder: Path) -> list[str]:
 @says_ours
 def write_page(
     ranges: HomeRanges, path: str | os.PathLike[str], *, title: str | None = None, study: str | None = None,
-    species: str | None = None, by: str | None = None, reserve: Any = None, reserve_name: str | None = None,
-    tz: str | None = None, made: date | None = None, overwrite: bool = False,
+    species: str | None = None, by: str | None = None, reference: str | None = None, purpose: str | None = None,
+    reserve: Any = None, reserve_name: str | None = None, tz: str | None = None, made: date | None = None, overwrite: bool = False,
 ) -> None:
     """Writes a page of ranges to read, to print and to hand in: one HTML file with nothing outside it.
 
     path: the file, such as report.html, whose name ends in .html or .htm. A page that was written before is written over.
     title, study, species, by: text for the head of the page.
+    reference, purpose: the reference of the case that the page belongs to, such as its file number, and what the page is for.
     reserve, reserve_name: a boundary for the map, as share_inside takes it, and what it is called.
     tz: the time zone of dates; if left out, that of the ranges.
     made: the day of making; if left out, today.
@@ -140,7 +143,7 @@ def write_page(
     """
     check_ranges(ranges)
     check_whole(ranges, "a page")
-    words = words_typed(title, study, species, by, reserve_name, made)
+    words = words_typed(title, study, species, by, reference, purpose, reserve_name, made)
     refuse_name_alone(reserve, reserve_name)
     file, zone, is_over = check_place(path_of(path, "path")), ranges.tz if tz is None else zone_text(tz), truth_of(overwrite, "overwrite")
     check_ending(file, ".html", ".htm")

@@ -17,7 +17,7 @@ test_that("what is typed into a page is text, and its day is a day", {
   for (made in list(as.Date(Inf, origin = "1970-01-01"), as.Date(-Inf, origin = "1970-01-01"), .POSIXct(Inf), as.Date(NA))) {
     refused(write_page(report, path, made = made), "is no date")
   }
-  for (name in c("title", "study", "species", "by")) {
+  for (name in c("title", "study", "species", "by", "reference", "purpose")) {
     typed <- `names<-`(list("M\xfcller"), name)
     refused(do.call(write_page, c(list(report, path), typed)), paste(name, "is M<fc>ller, which is no text in UTF-8"))
   }

@@ -59,9 +59,11 @@ test_that("an export that is called as the text of a table is named, and that of
 
 test_that("what is typed in is escaped, and places in it stay", {
   skip_without_program()
-  page <- page_of(example_ranges(), title = "{{sentences}} <script>", study = "a & b", by = "M\u202ea")
+  page <- page_of(example_ranges(), title = "{{sentences}} <script>", study = "a & b", by = "M\u202ea", reference = "7 <8",
+                  purpose = "permit")
   expect_match(page, "<title>{{sentences}} &lt;script&gt;</title>", fixed = TRUE)
   expect_match(page, "<span>Study: <bdi>a &amp; b</bdi></span> <span>By: <bdi>M\\u202ea</bdi></span> ", fixed = TRUE)
+  expect_match(page, "<span>Reference: <bdi>7 &lt;8</bdi></span> <span>Purpose: <bdi>permit</bdi></span> ", fixed = TRUE)
   expect_false(grepl("<script", page, fixed = TRUE))
 })
 

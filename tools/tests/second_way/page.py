@@ -29,6 +29,7 @@ PLACE = re.compile(r"\{\{([a-z]+)\}\}")
 COLOURS = 7
 WIDEST = 10  # reasons, and levels counted twice, for which one table has room
 MOST_SENTENCES, MOST_IN_KEY, MOST_IN_SQUARE, MOST_PAIRS = 40, 40, 12, 60
+MOST_AT_FOOT = 80
 MOST_SAID = 120
 KINDS = {"title": "title", "h1": "title", "h2": "heading", "p": "paragraph", "li": "sentence", "th": "heading", "td": "cell",
          "figcaption": "what stands above a curve", "svg": "label of a drawing", "meta": "head", "style": "style"}
@@ -69,7 +70,8 @@ class Wanted:
         first, last = min(animal.first for animal in self.animals), max(animal.last for animal in self.animals)
         by = f"dates of {self.clock.zone}" if self.clock.is_calendar else "counted from the start that the files have"
         return {
-            "title": self.title(), "heading": self.title(), "typed": self.typed(), "notes": self.notes(), "key": self.key(),
+            "title": shown.text_of(self.title()), "heading": shown.text_of(self.title()), "foot": self.foot(),
+            "digits": f"report.txt {self.run.report_sum[:16]}, ", "typed": self.typed(), "notes": self.notes(), "key": self.key(),
             "period": f"{self.clock.period(first, last)} ({by})", "made": f"Made on {self.day()} with {self.run.program}.{self.later(last)}",
             "overlap": self.overlap_sentence(), "verify": (
                 "Sums are SHA-256. This checks the folder that is handed in, and says what held and what was not looked at, in "
@@ -80,11 +82,18 @@ class Wanted:
 
     def title(self) -> str:
         """What was typed in, or else whose ranges they are."""
-        whose = shown.listed(self.names) if len(self.names) < 4 else f"{len(self.names)} animals"
-        return shown.text_of(self.run.typed("title")) or f"Home ranges of {whose}"
+        names = [animal.name for animal in self.animals]
+        whose = shown.listed(names) if len(names) < 4 else f"{len(names)} animals"
+        return self.run.typed("title") or f"Home ranges of {whose}"
+
+    def foot(self) -> str:
+        """The start of the title as a style sheet has it: letters and digits of ASCII and blanks, and codes for all else."""
+        title = self.title()
+        signs = shown.unseen_replaced(title[:MOST_AT_FOOT]) + "\u2026" * (len(title) > MOST_AT_FOOT)
+        return re.sub("[^0-9A-Za-z ]", lambda sign: f"\\{ord(sign[0]):06x} ", signs)
 
     def typed(self) -> str:
-        texts = ((name.capitalize(), shown.text_of(self.run.typed(name))) for name in ("study", "species", "by"))
+        texts = ((name.capitalize(), shown.text_of(self.run.typed(name))) for name in ("study", "species", "by", "reference", "purpose"))
         return " ".join(f"{name}: {text}" for name, text in texts if text)
 
     def day(self) -> str:
@@ -296,8 +305,6 @@ class Wanted:
         for block in template:
             if not block.tag:
                 yield from pieces[block.text.removeprefix("{{").removesuffix("}}")]
-            elif block.tag == "style":
-                yield block
             else:
                 yield block._replace(text=blanked(PLACE.sub(lambda found: texts[found[1]], block.text)))
 

@@ -26,6 +26,11 @@ def text_of(name: str) -> str:
     return HIDDEN.sub(lambda sign: f"\\u{ord(sign[0]):04x}", name)
 
 
+def unseen_replaced(name: str) -> str:
+    """A name with a sign of replacement for each character that could change how it looks."""
+    return HIDDEN.sub("\ufffd", CONTROL.sub("\ufffd", name))
+
+
 def number(value: Number, places: int = 0) -> str:
     """A number with so many decimals, and commas between thousands."""
     scaled = floor(Fraction(value) * 10 ** places + Fraction(1, 2))
