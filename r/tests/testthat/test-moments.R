@@ -153,6 +153,8 @@ test_that("moments of a zone that R takes otherwise than its name says are refus
   }
   expect_error(read_in("UTC+5:30"), "5.5 hours behind UTC: .* tz = \"Europe/Ljubljana\"[)]$", class = "homerange_columns_error")
   honest <- c(EST5EDT = 4, CET = -2, EST = 5, "Etc/GMT-2" = -2, "CET-1CEST" = -2, EST5 = 5, Z = 0, utc = 0, "UTC+0" = 0, "+00:00" = 0)
+  # Old names of zones are a package of their own from Debian 13 on.
+  honest <- honest[!names(honest) %in% setdiff(c("EST5EDT", "CET", "EST"), OlsonNames())]
   for (zone in names(honest)) expect_identical(read_in(zone), utc + 3600 * honest[[zone]])
   notes <- facts_of(quietly(read_fixes(timed(as.POSIXct(texts, tz = "EST5")))))$notes
   expect_true("days and hours are those of UTC, since the zone EST5 of time has no name, which R has 5 hours behind UTC" %in% notes)
@@ -165,7 +167,7 @@ test_that("a bound and a session of such a zone are refused too", {
     since <- suppressWarnings(as.POSIXct("2024-05-01 09:00", tz = zone))
     expect_error(quietly(read_fixes(table, since = since)), paste0("since: the zone ", zone, " is "), fixed = TRUE, class = "homerange_option_error")
   }
-  expect_identical(nrow(quietly(read_fixes(table, since = as.POSIXct("2024-05-01 11:00", tz = "CET")))), 3L)
+  expect_identical(nrow(quietly(read_fixes(table, since = as.POSIXct("2024-05-01 11:00", tz = "Etc/GMT-2")))), 3L)
   in_zone("UTC+2")
   expect_error(quietly(read_fixes(timed(as.POSIXct("2024-05-01 08:00") + 3600 * 0:3))),
                "the zone UTC+2 of the session is for R 2 hours behind UTC", fixed = TRUE, class = "homerange_columns_error")
