@@ -75,7 +75,9 @@ class Basis:
     def grown(self, level: int, names: Sequence[str]) -> Iterator[tuple[str, str]]:
         """The cells of how the area at a level grew."""
         last = self.area_of_first(len(self.points), level)
-        yield from zip(names, [*(change(before, last) for before in self.before(level)), *[self.since(last)] * (level < 100)])
+        yield from zip(names, [change(before, last) for before in self.before(level)])
+        if level < 100:
+            yield names[-1], self.since(last)
 
     def one_fix(self) -> tuple[int, int] | None:
         """The number of the fix without which the polygon of all others is least, of several the first, and the area of that."""
