@@ -62,7 +62,8 @@ td.n, .key b, figcaption b { font-weight: 700; }
 code { font-size: 8.5pt; }
 .text { font-size: 8.2pt; overflow-wrap: anywhere; }
 .limits { border-left: 1mm solid #666; padding-left: 2mm; }
-svg { display: block; width: 100%; height: auto; font-size: 10.4px; fill: #222; forced-color-adjust: none; overflow: visible; }
+svg { display: block; width: 100%; height: auto; font-size: 10.5px; fill: #222; background: #fff; forced-color-adjust: none;
+  overflow: visible; }
 svg.map { break-inside: avoid; margin-top: 1mm; }
 .maps svg.map + svg.map { display: inline-block; width: 49.5%; }
 path, circle { stroke: none; fill: none; }
@@ -90,7 +91,7 @@ path, circle { stroke: none; fill: none; }
 .dense .l0, .dense .l2 { stroke-width: 0.6; }
 .dense .l1 { stroke-width: 1; }
 .dense .dots { stroke-width: 1; }
-.dense .number { stroke-width: 2; font-size: 10.4px; }
+.dense .number { stroke-width: 2; }
 .leader { stroke: #666; stroke-width: 0.6; }
 .number { fill: currentColor; font-weight: 700; paint-order: stroke; stroke: #fff; stroke-width: 3; stroke-linejoin: round; }
 .swatch { display: inline-block; width: 9mm; height: 3mm; vertical-align: -0.4mm; margin-right: 1mm; }
@@ -104,8 +105,13 @@ figcaption { font-size: 8pt; overflow-wrap: anywhere; line-height: 1.2; }
 .hidden { position: absolute; width: 1px; height: 1px; overflow: hidden; clip-path: inset(50%); white-space: nowrap; }
 @media print { body { max-width: none; padding: 0; } .scroll { overflow: visible; } #animals td, #growth td, #sampling td { white-space: normal; } }
 @media screen and (max-width: 600px) {
-  #animals tbody th, #animals thead th.name { position: sticky; left: 0; background: #fff; min-width: 17mm; max-width: 24mm; }
-  #animals tr > :last-child { position: sticky; right: 0; background: #fff; }
+  ul.two { columns: 1; }
+  tbody th, thead th.name { position: sticky; left: 0; background: #fff; max-width: 24mm; }
+  #animals .ha, #animals td[data-field^="hectares_"] { position: sticky; right: 0; background: #fff; width: 12mm; min-width: 12mm; }
+  #animals .ha:nth-last-child(2), #animals td[data-field^="hectares_"]:nth-last-child(2) { right: 12mm; }
+  #animals .ha:nth-last-child(3), #animals td[data-field^="hectares_"]:nth-last-child(3) { right: 24mm; }
+  #animals .ha:nth-last-child(n + 4), #animals td[data-field^="hectares_"]:nth-last-child(n + 4) { position: static; }
+  #animals:has(.ha) tr:first-child > th:last-child { position: sticky; right: 0; background: #fff; }
 }
 </style>
 </head>
@@ -200,6 +206,7 @@ pub(crate) const BEFORE_CHECKSUMS: &[u8] = br##"</p>
 <section>
 <h2>Checksums</h2>
 <table id="sums">
+<caption class="hidden">Checksums</caption>
 <tbody>
 "##;
 
