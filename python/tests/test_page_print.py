@@ -33,12 +33,12 @@ def sheets(folder):
     return int(re.search("Pages: +([0-9]+)", said)[1]), [round(float(side)) for side in size.groups()]
 
 
-@pytest.mark.parametrize("animals, most", [(1, 2), (3, 2), (30, 5)])
+@pytest.mark.parametrize("animals, most", [(1, 3), (3, 3), (30, 8)])
 def test_it_prints_to_a4(tmp_path, animals, most):
     herd = dict([*HERD.items(), *((f"deer {n}", cloud(n, 50, 500, 560000 + 700 * n)) for n in range(27))][:animals])
     write_page(home_range(frame_of(**herd), zone="33N"), tmp_path / "report.html", title="Ranges & more", study="Kolpa")
     pages, size = sheets(tmp_path)
-    assert pages == 2 if most == 2 else 2 < pages <= most
+    assert pages == 3 if most == 3 else 3 < pages <= most
     assert size == [595, 842]
 
 

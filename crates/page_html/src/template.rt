@@ -19,6 +19,7 @@ pub(crate) const BEFORE_DIGITS: &[u8] = br##"";
 
 pub(crate) const BEFORE_HEADING: &[u8] = br##"sheet " counter(page) " of " counter(pages);
     width: 38%; text-align: right; font: 8pt sans-serif; color: #333; vertical-align: top; padding-top: 3mm; } }
+:root { color-scheme: only light; }
 * { box-sizing: border-box; }
 body { margin: 0 auto; max-width: 194mm; padding: 6mm 4mm; color: #111; background: #fff;
   font: 9.2pt/1.35 system-ui, "Segoe UI", "Helvetica Neue", Arial, "Liberation Sans", "Noto Sans", "DejaVu Sans", sans-serif; }
@@ -27,7 +28,7 @@ h2 { font-size: 10.5pt; margin: 3.6mm 0 1mm; border-bottom: 0.3mm solid #999; br
 p, ul { margin: 0.8mm 0; }
 header p { overflow-wrap: anywhere; }
 ul { padding: 0; list-style: none; font-size: 10.5pt; }
-ul.two { columns: 2; column-gap: 5mm; font-size: 7.2pt; }
+ul.two { columns: 2; column-gap: 5mm; font-size: 8pt; }
 li { overflow-wrap: anywhere; break-inside: avoid; }
 .typed span { margin-right: 5mm; }
 .note, .key { font-size: 8pt; color: #333; }
@@ -38,7 +39,7 @@ p { orphans: 3; widows: 3; }
 .key { overflow-wrap: anywhere; }
 .key span { margin-right: 3.5mm; }
 .key .line { white-space: nowrap; }
-table { border-collapse: collapse; font-size: 7pt; line-height: 1.2; font-variant-numeric: tabular-nums; }
+table { border-collapse: collapse; font-size: 8pt; line-height: 1.2; font-variant-numeric: tabular-nums; }
 thead { display: table-header-group; }
 tr { break-inside: avoid; }
 th, td { padding: 0.45mm 0.7mm; border-bottom: 0.15mm solid #bbb; text-align: right; font-weight: normal;
@@ -50,19 +51,20 @@ tbody th, thead th.name { text-align: left; white-space: normal; overflow-wrap: 
 tbody th { font-weight: 600; }
 .scroll { overflow-x: auto; }
 #animals { width: 100%; }
-#areas { margin-top: 2mm; }
+#areas, #growth, #sampling { margin-top: 3mm; }
 #overlaps { max-width: 100%; }
 #overlaps td[data-other] { white-space: normal; min-width: 10mm; }
 td.n, .key b, figcaption b { font-weight: 700; }
 #sums { width: 100%; }
 #sums th, #sums td { text-align: left; white-space: normal; }
 .sum, code { font-family: ui-monospace, "DejaVu Sans Mono", "Liberation Mono", Consolas, monospace; overflow-wrap: anywhere; }
-.sum { font-size: 6.6pt; }
+.sum { font-size: 8pt; }
 code { font-size: 8.5pt; }
 .text { font-size: 8.2pt; overflow-wrap: anywhere; }
 .limits { border-left: 1mm solid #666; padding-left: 2mm; }
-svg { display: block; width: 100%; height: auto; font-size: 8.5px; fill: #222; }
-svg.map { break-inside: avoid; margin-top: 1mm; font-size: 9.5px; }
+svg { display: block; width: 100%; height: auto; font-size: 10.5px; fill: #222; background: #fff; forced-color-adjust: none;
+  overflow: visible; }
+svg.map { break-inside: avoid; margin-top: 1mm; }
 .maps svg.map + svg.map { display: inline-block; width: 49.5%; }
 path, circle { stroke: none; fill: none; }
 .grid path { stroke: #ddd; stroke-width: 0.7; }
@@ -96,11 +98,21 @@ path, circle { stroke: none; fill: none; }
 .c0 { color: #0072b2; } .c1 { color: #c44e00; } .c2 { color: #00805e; } .c3 { color: #a8437a; } .c4 { color: #7a6200; }
 .c5 { color: #4b3fa0; } .c6 { color: #4d4d4d; }
 figure { display: inline-block; margin: 0 0 1mm; vertical-align: top; break-inside: avoid; padding-right: 2mm; }
-figcaption { font-size: 7.5pt; overflow-wrap: anywhere; line-height: 1.2; }
-.of1 { width: 100%; } .of2 { width: 50%; } .of3 { width: 33.33%; } .of4 { width: 25%; } .of6 { width: 16.66%; } .of10 { width: 10%; }
-.of6 figcaption, .of10 figcaption { font-size: 6.3pt; white-space: nowrap; }
+figcaption { font-size: 8pt; overflow-wrap: anywhere; line-height: 1.2; }
+.of1 { width: 100%; } .of2 { width: 50%; } .of3 { width: 33.33%; } .of4 { width: 25%; } .of6 { width: 20%; } .of10 { width: 12.5%; }
+.of6 figcaption, .of10 figcaption { white-space: nowrap; }
 .figures { font-size: 0; }
-@media print { body { max-width: none; padding: 0; } .scroll { overflow: visible; } }
+.hidden { position: absolute; width: 1px; height: 1px; overflow: hidden; clip-path: inset(50%); white-space: nowrap; }
+@media print { body { max-width: none; padding: 0; } .scroll { overflow: visible; } #animals td, #growth td, #sampling td { white-space: normal; } }
+@media screen and (max-width: 600px) {
+  ul.two { columns: 1; }
+  tbody th, thead th.name { position: sticky; left: 0; background: #fff; max-width: 24mm; }
+  #animals .ha, #animals td[data-field^="hectares_"] { position: sticky; right: 0; background: #fff; width: 12mm; min-width: 12mm; }
+  #animals .ha:nth-last-child(2), #animals td[data-field^="hectares_"]:nth-last-child(2) { right: 12mm; }
+  #animals .ha:nth-last-child(3), #animals td[data-field^="hectares_"]:nth-last-child(3) { right: 24mm; }
+  #animals .ha:nth-last-child(n + 4), #animals td[data-field^="hectares_"]:nth-last-child(n + 4) { position: static; }
+  #animals:has(.ha) tr:first-child > th:last-child { position: sticky; right: 0; background: #fff; }
+}
 </style>
 </head>
 <body>
@@ -194,6 +206,7 @@ pub(crate) const BEFORE_CHECKSUMS: &[u8] = br##"</p>
 <section>
 <h2>Checksums</h2>
 <table id="sums">
+<caption class="hidden">Checksums</caption>
 <tbody>
 "##;
 

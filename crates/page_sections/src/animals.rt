@@ -91,7 +91,7 @@ pub(crate) fn push_begin(
     push_colour(text, number)?;
     text.extend_from_slice(b" n\" data-field=\"number\">")?;
     push_count(text, number)?;
-    text.extend_from_slice(b"</td><th>")?;
+    text.extend_from_slice(b"</td><th scope=\"row\">")?;
     push_named(text, &animal.name)?;
     text.extend_from_slice(b"</th>")
 }
@@ -137,7 +137,9 @@ fn push_area_line(
 
 // Appends the table of areas.
 fn push_areas_table(text: &mut Vec<u8>, shown: &Shown) -> Result<(), AllocError> {
-    text.extend_from_slice(b"\n<table id=\"areas\"><thead><tr>")?;
+    text.extend_from_slice(
+        b"\n<table id=\"areas\"><caption class=\"hidden\">Areas at each level</caption><thead><tr>",
+    )?;
     text.extend_from_slice(ANIMAL)?;
     push_levels(text, levels_of(shown.report).len())?;
     text.extend_from_slice(b"</tr>\n<tr>")?;
@@ -159,7 +161,9 @@ pub fn push_animals_table(text: &mut Vec<u8>, shown: &Shown) -> Result<(), Alloc
         <= WIDEST as u128;
     text.extend_from_slice(b"<table id=\"animals\" data-zone=\"")?;
     push_escaped(text, shown.zone)?;
-    text.extend_from_slice(b"\">\n")?;
+    text.extend_from_slice(
+        b"\">\n<caption class=\"hidden\">Fixes, times and areas of each animal</caption>\n",
+    )?;
     push_headings(text, shown, has_areas)?;
     text.extend_from_slice(b"\n<tbody>\n")?;
     push_lines(text, shown, has_areas)?;

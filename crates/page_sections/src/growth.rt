@@ -133,7 +133,7 @@ fn push_cells(
 
 // Appends the headings of a level over its columns.
 fn push_level_heading(text: &mut Vec<u8>, level: u8, columns: u64) -> Result<(), AllocError> {
-    text.extend_from_slice(b"<th colspan=\"")?;
+    text.extend_from_slice(b"<th scope=\"colgroup\" colspan=\"")?;
     push_count(text, columns)?;
     text.extend_from_slice(b"\">")?;
     push_count(text, u64::from(level))?;
@@ -143,20 +143,22 @@ fn push_level_heading(text: &mut Vec<u8>, level: u8, columns: u64) -> Result<(),
 // Appends the headings of the table.
 fn push_headings(text: &mut Vec<u8>, level: u8) -> Result<(), AllocError> {
     const LAST: &[u8] =
-        b"<th>last quarter<br>of the days</th><th>of the<br>fixes</th><th>since<br>day</th>";
+        b"<th scope=\"col\">last quarter<br>of the days</th><th scope=\"col\">of the<br>fixes</th>\
+        <th scope=\"col\">since<br>day</th>";
     text.extend_from_slice(b"<thead><tr>")?;
     text.extend_from_slice(ANIMAL)?;
     if level < ALL {
         push_level_heading(text, level, 3)?;
     }
     push_level_heading(text, ALL, 4)?;
-    text.extend_from_slice(b"<th colspan=\"2\">One fix</th></tr>\n<tr>")?;
+    text.extend_from_slice(b"<th scope=\"colgroup\" colspan=\"2\">One fix</th></tr>\n<tr>")?;
     if level < ALL {
         text.extend_from_slice(LAST)?;
     }
     text.extend_from_slice(LAST)?;
     text.extend_from_slice(
-        b"<th>since<br>fix</th><th>date</th><th>date</th><th>makes</th></tr></thead>",
+        b"<th scope=\"col\">since<br>fix</th><th scope=\"col\">date</th><th scope=\"col\">date</th>\
+        <th scope=\"col\">makes</th></tr></thead>",
     )
 }
 
@@ -178,7 +180,9 @@ fn push_lines(text: &mut Vec<u8>, shown: &Shown, has_quoted: bool) -> Result<(),
 /// Memory ran out.
 pub fn push_growth_table(text: &mut Vec<u8>, shown: &Shown) -> Result<(), AllocError> {
     let level = quoted_level(shown.report);
-    text.extend_from_slice(b"<table id=\"growth\">\n")?;
+    text.extend_from_slice(
+        b"<table id=\"growth\">\n<caption class=\"hidden\">How the areas grew</caption>\n",
+    )?;
     push_headings(text, level)?;
     text.extend_from_slice(b"\n<tbody>\n")?;
     push_lines(text, shown, level < ALL)?;

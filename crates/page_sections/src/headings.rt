@@ -9,14 +9,14 @@ use std::alloc::AllocError;
 
 // The headings of the number and the name of an animal.
 pub(crate) const ANIMAL: &[u8] =
-    b"<th rowspan=\"2\"></th><th rowspan=\"2\" class=\"name\">Animal</th>";
+    b"<th rowspan=\"2\"></th><th scope=\"col\" rowspan=\"2\" class=\"name\">Animal</th>";
 
 // The same in a table with one line of headings.
-pub(crate) const ANIMAL_ONCE: &[u8] = b"<th></th><th class=\"name\">Animal</th>";
+pub(crate) const ANIMAL_ONCE: &[u8] = b"<th></th><th scope=\"col\" class=\"name\">Animal</th>";
 
 // Appends the start of a heading that is written upwards, over so many lines.
 fn push_turned(text: &mut Vec<u8>, lines: &[u8]) -> Result<(), AllocError> {
-    text.extend_from_slice(b"<th class=\"turned\" rowspan=\"")?;
+    text.extend_from_slice(b"<th scope=\"col\" class=\"turned\" rowspan=\"")?;
     text.extend_from_slice(lines)?;
     text.extend_from_slice(b"\"><span>")
 }
@@ -26,7 +26,7 @@ fn push_over(text: &mut Vec<u8>, columns: usize, words: &[u8]) -> Result<(), All
     if columns == 0 {
         return Ok(());
     }
-    text.extend_from_slice(b"<th colspan=\"")?;
+    text.extend_from_slice(b"<th scope=\"colgroup\" colspan=\"")?;
     push_count(text, columns as u64)?;
     text.extend_from_slice(b"\">")?;
     text.extend_from_slice(words)?;
@@ -41,7 +41,7 @@ pub(crate) fn push_levels(text: &mut Vec<u8>, columns: usize) -> Result<(), Allo
 // Appends the heading of each level.
 pub(crate) fn push_percents(text: &mut Vec<u8>, levels: &[PercentRow]) -> Result<(), AllocError> {
     for own in levels {
-        text.extend_from_slice(b"<th>")?;
+        text.extend_from_slice(b"<th scope=\"col\" class=\"ha\">")?;
         push_fixed(text, u128::from(own.level), 1, Places::Whole)?;
         text.extend_from_slice(b" %</th>")?;
     }
@@ -68,16 +68,18 @@ fn push_above(text: &mut Vec<u8>, shown: &Shown, levels: usize) -> Result<(), Al
     push_over(text, shown.causes.len(), b"Left out")?;
     push_turned(text, b"2")?;
     text.extend_from_slice(
-        b"used</span></th><th rowspan=\"2\">First</th><th rowspan=\"2\">Last</th>",
+        b"used</span></th><th scope=\"col\" rowspan=\"2\">First</th><th scope=\"col\" rowspan=\"2\">Last</th>",
     )?;
-    text.extend_from_slice(b"<th rowspan=\"2\">Days</th><th colspan=\"2\">Interval</th>")?;
+    text.extend_from_slice(
+        b"<th scope=\"col\" rowspan=\"2\">Days</th><th scope=\"colgroup\" colspan=\"2\">Interval</th>",
+    )?;
     push_levels(text, levels)
 }
 
 // Appends the line below.
 fn push_below(text: &mut Vec<u8>, shown: &Shown, has_areas: bool) -> Result<(), AllocError> {
     push_causes(text, shown.causes)?;
-    text.extend_from_slice(b"<th>median</th><th>longest</th>")?;
+    text.extend_from_slice(b"<th scope=\"col\">median</th><th scope=\"col\">longest</th>")?;
     if has_areas {
         push_percents(text, levels_of(shown.report))?;
     }

@@ -54,7 +54,7 @@ fn push_animal(text: &mut Vec<u8>, report: &Report, place: usize) -> Result<(), 
     push_colour(text, number)?;
     text.extend_from_slice(b" n\">")?;
     push_count(text, number)?;
-    text.extend_from_slice(b"</td><th>")?;
+    text.extend_from_slice(b"</td><th scope=\"row\">")?;
     push_named(text, name_at(report, place))?;
     text.extend_from_slice(b"</th>")
 }
@@ -88,7 +88,7 @@ fn push_square_lines(text: &mut Vec<u8>, report: &Report) -> Result<(), AllocErr
 fn push_numbers(text: &mut Vec<u8>, report: &Report) -> Result<(), AllocError> {
     for place in 0..report.animals.len() {
         let number = (place as u64).saturating_add(1);
-        text.extend_from_slice(b"<th class=\"")?;
+        text.extend_from_slice(b"<th scope=\"col\" class=\"")?;
         push_colour(text, number)?;
         text.extend_from_slice(b"\">")?;
         push_count(text, number)?;
@@ -103,7 +103,8 @@ fn push_square(text: &mut Vec<u8>, report: &Report) -> Result<(), AllocError> {
         b"<p class=\"note\">Rows: whose fixes. Columns: in the range of the animal with this number.</p>\n",
     )?;
     text.extend_from_slice(
-        b"<table id=\"overlaps\"><thead><tr><th></th><th class=\"name\">Fixes of</th>",
+        b"<table id=\"overlaps\"><caption class=\"hidden\">Fixes of one animal in the range of another</caption>\
+        <thead><tr><th></th><th scope=\"col\" class=\"name\">Fixes of</th>",
     )?;
     push_numbers(text, report)?;
     text.extend_from_slice(b"</tr></thead>\n<tbody>\n")?;
@@ -133,10 +134,15 @@ fn push_pairs(text: &mut Vec<u8>, report: &Report, pairs: &[Meeting]) -> Result<
         text.extend_from_slice(b" pairs with the greatest shares are here.")?;
     }
     text.extend_from_slice(
-        b"</p>\n<table id=\"overlaps\"><thead><tr><th></th><th class=\"name\">A</th><th></th>",
+        b"</p>\n<table id=\"overlaps\"><caption class=\"hidden\">Fixes of one animal in the range of another</caption>\
+        <thead><tr><th></th><th scope=\"col\" class=\"name\">A</th><th></th>",
     )?;
-    text.extend_from_slice(b"<th class=\"name\">B</th><th>fixes of A in the range of B</th>")?;
-    text.extend_from_slice(b"<th>fixes of B in the range of A</th></tr></thead>\n<tbody>\n")?;
+    text.extend_from_slice(
+        b"<th scope=\"col\" class=\"name\">B</th><th scope=\"col\">fixes of A in the range of B</th>",
+    )?;
+    text.extend_from_slice(
+        b"<th scope=\"col\">fixes of B in the range of A</th></tr></thead>\n<tbody>\n",
+    )?;
     push_lines(text, report, &pairs[..pairs.len().min(MOST_PAIRS)])?;
     text.extend_from_slice(b"</tbody></table>")
 }

@@ -13,8 +13,8 @@ use std::alloc::AllocError;
 
 // The headings of the table.
 const HEADINGS: &[u8] =
-    b"<th>Places</th><th>there<br>twice</th><th>two places<br>at once</th><th>half of the<br>fixes in</th>\
-    <th>longest<br>gap</th><th colspan=\"2\">fastest step</th></tr></thead>";
+    b"<th scope=\"col\">Places</th><th scope=\"col\">there<br>twice</th><th scope=\"col\">two places<br>at once</th>\
+    <th scope=\"col\">half of the<br>fixes in</th><th scope=\"col\">longest<br>gap</th><th scope=\"colgroup\" colspan=\"2\">fastest step</th></tr></thead>";
 
 // What stands below the table.
 const WORDS: &[u8] =
@@ -124,7 +124,9 @@ fn push_lines(text: &mut Vec<u8>, shown: &Shown) -> Result<(), AllocError> {
 ///
 /// Memory ran out.
 pub fn push_sampling_table(text: &mut Vec<u8>, shown: &Shown) -> Result<(), AllocError> {
-    text.extend_from_slice(b"<table id=\"sampling\">\n<thead><tr>")?;
+    text.extend_from_slice(
+        b"<table id=\"sampling\">\n<caption class=\"hidden\">When and where the fixes are</caption>\n<thead><tr>",
+    )?;
     text.extend_from_slice(ANIMAL_ONCE)?;
     text.extend_from_slice(HEADINGS)?;
     text.extend_from_slice(b"\n<tbody>\n")?;

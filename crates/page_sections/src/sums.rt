@@ -35,7 +35,7 @@ fn push_sum(text: &mut Vec<u8>, field: &[u8], sum: &[u8]) -> Result<(), AllocErr
 
 // Appends the line of the export.
 fn push_export(text: &mut Vec<u8>, origin: Origin) -> Result<(), AllocError> {
-    text.extend_from_slice(b"<tr><th>Export</th><td>")?;
+    text.extend_from_slice(b"<tr><th scope=\"row\">Export</th><td>")?;
     let sum = match origin {
         Origin::Export(name, sum) => {
             push_named(text, name)?;
@@ -49,7 +49,7 @@ fn push_export(text: &mut Vec<u8>, origin: Origin) -> Result<(), AllocError> {
 
 // Appends the line of the report.
 fn push_report(text: &mut Vec<u8>, report: Option<&[u8]>) -> Result<(), AllocError> {
-    text.extend_from_slice(b"\n<tr><th>Report</th><td>")?;
+    text.extend_from_slice(b"\n<tr><th scope=\"row\">Report</th><td>")?;
     match report {
         Some(sum) => {
             text.extend_from_slice(b"report.txt")?;
@@ -71,7 +71,7 @@ fn push_report(text: &mut Vec<u8>, report: Option<&[u8]>) -> Result<(), AllocErr
 pub fn push_sums(text: &mut Vec<u8>, sums: &Sums) -> Result<(), AllocError> {
     push_export(text, sums.origin)?;
     push_report(text, sums.report)?;
-    text.extend_from_slice(b"\n<tr><th>Program</th><td>")?;
+    text.extend_from_slice(b"\n<tr><th scope=\"row\">Program</th><td>")?;
     push_escaped(text, sums.program.0)?;
     push_sum(text, b"program_sha256", sums.program.1)
 }

@@ -22,30 +22,36 @@ pub(crate) const TWO: Case = Case {
     e export left out; over the last quarter of the days it grew by 50.0 %</li>\n<li><bdi>owl</bdi>: 100 % MCP 500 m\
     ², 3 fixes, 14 Nov 2023; 2 fixes of the export left out; over the last quarter of the days it grew by 100.0 %</l\
     i>\n</ul>",
-    animals: "<table id=\"animals\" data-zone=\"UTC\">\n<thead><tr><th rowspan=\"2\"></th><th rowspan=\"2\" class=\"\
-    name\">Animal</th><th class=\"turned\" rowspan=\"2\"><span>in the export</span></th><th colspan=\"3\">Left out</\
-    th><th class=\"turned\" rowspan=\"2\"><span>used</span></th><th rowspan=\"2\">First</th><th rowspan=\"2\">Last</\
-    th><th rowspan=\"2\">Days</th><th colspan=\"2\">Interval</th><th colspan=\"2\">MCP, ha</th></tr>\n<tr><th class=\
-    \"turned\" rowspan=\"1\"><span>marked outlier</span></th><th class=\"turned\" rowspan=\"1\"><span>no DOP</span><\
-    /th><th class=\"turned\" rowspan=\"1\"><span>too fast</span></th><th>median</th><th>longest</th><th>50 %</th><th\
-    >100 %</th></tr></thead>\n<tbody>\n<tr data-animal=\"fox\"><td class=\"c0 n\" data-field=\"number\">1</td><th><b\
-    di>fox</bdi></th><td data-field=\"records\">8</td><td data-field=\"left_outlier\">1</td><td data-field=\"left_no\
-    _dop\">0</td><td data-field=\"left_speed\">3</td><td data-field=\"used\">4</td><td data-field=\"first\">14 Nov 2\
-    023</td><td data-field=\"last\">15 Nov 2023</td><td data-field=\"days\">0.1</td><td data-field=\"median_interval\
-    \">60 min</td><td data-field=\"longest_interval\">60 min</td><td data-field=\"hectares_50\">0</td><td data-field\
-    =\"hectares_100\">12.0</td></tr>\n<tr data-animal=\"owl\"><td class=\"c1 n\" data-field=\"number\">2</td><th><bd\
-    i>owl</bdi></th><td data-field=\"records\">5</td><td data-field=\"left_outlier\">0</td><td data-field=\"left_no_\
-    dop\">2</td><td data-field=\"left_speed\">0</td><td data-field=\"used\">3</td><td data-field=\"first\">14 Nov 20\
-    23</td><td data-field=\"last\">14 Nov 2023</td><td data-field=\"days\">0.0</td><td data-field=\"median_interval\
-    \">2 min</td><td data-field=\"longest_interval\">2 min</td><td data-field=\"hectares_50\">0</td><td data-field=\
-    \"hectares_100\">500 m²</td></tr>\n</tbody></table>",
+    animals: "<table id=\"animals\" data-zone=\"UTC\">\n<caption class=\"hidden\">Fixes, times and areas of ea\
+    ch animal</caption>\n<thead><tr><th rowspan=\"2\"></th><th scope=\"col\" rowspan=\"2\" class=\"name\">Animal</\
+    th><th scope=\"col\" class=\"turned\" rowspan=\"2\"><span>in the export</span></th><th scope=\"colgroup\" cols\
+    pan=\"3\">Left out</th><th scope=\"col\" class=\"turned\" rowspan=\"2\"><span>used</span></th><th scope=\"col\
+    \" rowspan=\"2\">First</th><th scope=\"col\" rowspan=\"2\">Last</th><th scope=\"col\" rowspan=\"2\">Days</th><\
+    th scope=\"colgroup\" colspan=\"2\">Interval</th><th scope=\"colgroup\" colspan=\"2\">MCP, ha</th></tr>\n<tr><\
+    th scope=\"col\" class=\"turned\" rowspan=\"1\"><span>marked outlier</span></th><th scope=\"col\" class=\"turn\
+    ed\" rowspan=\"1\"><span>no DOP</span></th><th scope=\"col\" class=\"turned\" rowspan=\"1\"><span>too fast</sp\
+    an></th><th scope=\"col\">median</th><th scope=\"col\">longest</th><th scope=\"col\" class=\"ha\">50 %</th><t\
+    h scope=\"col\" class=\"ha\">100 %</th></tr></thead>\n<tbody>\n<tr data-animal=\"fox\"><td class=\"c0 n\" data\
+    -field=\"number\">1</td><th scope=\"row\"><bdi>fox</bdi></th><td data-field=\"records\">8</td><td data-field=\
+    \"left_outlier\">1</td><td data-field=\"left_no_dop\">0</td><td data-field=\"left_speed\">3</td><td data-field\
+    =\"used\">4</td><td data-field=\"first\">14 Nov 2023</td><td data-field=\"last\">15 Nov 2023</td><td data-fiel\
+    d=\"days\">0.1</td><td data-field=\"median_interval\">60 min</td><td data-field=\"longest_interval\">60 min</t\
+    d><td data-field=\"hectares_50\">0</td><td data-field=\"hectares_100\">12.0</td></tr>\n<tr data-animal=\"owl\"\
+    ><td class=\"c1 n\" data-field=\"number\">2</td><th scope=\"row\"><bdi>owl</bdi></th><td data-field=\"records\
+    \">5</td><td data-field=\"left_outlier\">0</td><td data-field=\"left_no_dop\">2</td><td data-field=\"left_spee\
+    d\">0</td><td data-field=\"used\">3</td><td data-field=\"first\">14 Nov 2023</td><td data-field=\"last\">14 No\
+    v 2023</td><td data-field=\"days\">0.0</td><td data-field=\"median_interval\">2 min</td><td data-field=\"longe\
+    st_interval\">2 min</td><td data-field=\"hectares_50\">0</td><td data-field=\"hectares_100\">500 m²</td></tr>\
+    \n</tbody></table>",
     overlap: "Pairs of animals that meet: 1 of 1 (a fix of one lies in the 100 % polygon of the other, its edges included)\
     . Most of all <bdi>owl</bdi>: 2 (67 %) of its 3 fixes in the range of <bdi>fox</bdi>.",
-    overlaps: "<p class=\"note\">Rows: whose fixes. Columns: in the range of the animal with this number.</p>\n<table id=\"ov\
-    erlaps\"><thead><tr><th></th><th class=\"name\">Fixes of</th><th class=\"c0\">1</th><th class=\"c1\">2</th></t\
-    r></thead>\n<tbody>\n<tr><td class=\"c0 n\">1</td><th><bdi>fox</bdi></th><td>–</td><td data-animal=\"fox\" dat\
-    a-other=\"owl\">0</td></tr>\n<tr><td class=\"c1 n\">2</td><th><bdi>owl</bdi></th><td data-animal=\"owl\" data-\
-    other=\"fox\">2 (67 %)</td><td>–</td></tr>\n</tbody></table>",
+    overlaps: "<p class=\"note\">Rows: whose fixes. Columns: in the range of the animal with this number.</p>\n\
+    <table id=\"overlaps\"><caption class=\"hidden\">Fixes of one animal in the range of another</caption><thead><\
+    tr><th></th><th scope=\"col\" class=\"name\">Fixes of</th><th scope=\"col\" class=\"c0\">1</th><th scope=\"col\
+    \" class=\"c1\">2</th></tr></thead>\n<tbody>\n<tr><td class=\"c0 n\">1</td><th scope=\"row\"><bdi>fox</bdi></t\
+    h><td>–</td><td data-animal=\"fox\" data-other=\"owl\">0</td></tr>\n<tr><td class=\"c1 n\">2</td><th scope=\"r\
+    ow\"><bdi>owl</bdi></th><td data-animal=\"owl\" data-other=\"fox\">2 (67 %)</td><td>–</td></tr>\n</tbody></tab\
+    le>",
     method: "Home ranges are minimum convex polygons (MCP) of 100 % and 50 % of the fixes; that of all fixes is the \
     one of Mohr (1947). They were computed by homerange 1.0.0 from coordinates in whole metres, EPSG:32633 (WGS 84 / \
     UTM zone 33N). Of n fixes, the polygon at p % has the p per cent of n, rounded up to whole fixes, that lie neare\
@@ -65,32 +71,37 @@ pub(crate) const NAMES: Case = Case {
     ter of the days it grew by 100.0 %</li>\n<li><bdi>&#x27;o b</bdi>: 100 % MCP 7.50 m², 3 fixes, 14 Nov 2023; over \
     the last quarter of the days it grew by 100.0 %</li>\n<li><bdi>@x</bdi>: 100 % MCP has no area, 1 fix, 14 Nov 20\
     23</li>\n</ul>",
-    animals: "<table id=\"animals\" data-zone=\"UTC\">\n<thead><tr><th rowspan=\"2\"></th><th rowspan=\"2\" class=\"\
-    name\">Animal</th><th class=\"turned\" rowspan=\"2\"><span>in the data</span></th><th class=\"turned\" rowspan=\
-    \"2\"><span>used</span></th><th rowspan=\"2\">First</th><th rowspan=\"2\">Last</th><th rowspan=\"2\">Days</th><t\
-    h colspan=\"2\">Interval</th><th colspan=\"1\">MCP, ha</th></tr>\n<tr><th>median</th><th>longest</th><th>100 %</\
-    th></tr></thead>\n<tbody>\n<tr data-animal=\"=1+1\"><td class=\"c0 n\" data-field=\"number\">1</td><th><bdi>=1+1\
-    </bdi></th><td data-field=\"records\">–</td><td data-field=\"used\">3</td><td data-field=\"first\">14 Nov 2023</\
-    td><td data-field=\"last\">14 Nov 2023</td><td data-field=\"days\">0.0</td><td data-field=\"median_interval\">2 \
-    s</td><td data-field=\"longest_interval\">2 s</td><td data-field=\"hectares_100\">0.50 m²</td></tr>\n<tr data-an\
-    imal=\"&#x27;o b\"><td class=\"c1 n\" data-field=\"number\">2</td><th><bdi>&#x27;o b</bdi></th><td data-field=\"\
-    records\">–</td><td data-field=\"used\">3</td><td data-field=\"first\">14 Nov 2023</td><td data-field=\"last\">1\
-    4 Nov 2023</td><td data-field=\"days\">0.0</td><td data-field=\"median_interval\">2 s</td><td data-field=\"longe\
-    st_interval\">2 s</td><td data-field=\"hectares_100\">7.50 m²</td></tr>\n<tr data-animal=\"@x\"><td class=\"c2 n\
-    \" data-field=\"number\">3</td><th><bdi>@x</bdi></th><td data-field=\"records\">–</td><td data-field=\"used\">1<\
-    /td><td data-field=\"first\">14 Nov 2023</td><td data-field=\"last\">14 Nov 2023</td><td data-field=\"days\">0.0\
-    </td><td data-field=\"median_interval\">–</td><td data-field=\"longest_interval\">–</td><td data-field=\"hectare\
-    s_100\">0</td></tr>\n</tbody></table>",
+    animals: "<table id=\"animals\" data-zone=\"UTC\">\n<caption class=\"hidden\">Fixes, times and areas of ea\
+    ch animal</caption>\n<thead><tr><th rowspan=\"2\"></th><th scope=\"col\" rowspan=\"2\" class=\"name\">Animal</\
+    th><th scope=\"col\" class=\"turned\" rowspan=\"2\"><span>in the data</span></th><th scope=\"col\" class=\"tur\
+    ned\" rowspan=\"2\"><span>used</span></th><th scope=\"col\" rowspan=\"2\">First</th><th scope=\"col\" rowspan=\
+    \"2\">Last</th><th scope=\"col\" rowspan=\"2\">Days</th><th scope=\"colgroup\" colspan=\"2\">Interval</th><th \
+    scope=\"colgroup\" colspan=\"1\">MCP, ha</th></tr>\n<tr><th scope=\"col\">median</th><th scope=\"col\">longest\
+    </th><th scope=\"col\" class=\"ha\">100 %</th></tr></thead>\n<tbody>\n<tr data-animal=\"=1+1\"><td class=\"c0 \
+    n\" data-field=\"number\">1</td><th scope=\"row\"><bdi>=1+1</bdi></th><td data-field=\"records\">–</td><td dat\
+    a-field=\"used\">3</td><td data-field=\"first\">14 Nov 2023</td><td data-field=\"last\">14 Nov 2023</td><td da\
+    ta-field=\"days\">0.0</td><td data-field=\"median_interval\">2 s</td><td data-field=\"longest_interval\">2 s</\
+    td><td data-field=\"hectares_100\">0.50 m²</td></tr>\n<tr data-animal=\"&#x27;o b\"><td class=\"c1 n\" data-fi\
+    eld=\"number\">2</td><th scope=\"row\"><bdi>&#x27;o b</bdi></th><td data-field=\"records\">–</td><td data-fiel\
+    d=\"used\">3</td><td data-field=\"first\">14 Nov 2023</td><td data-field=\"last\">14 Nov 2023</td><td data-fie\
+    ld=\"days\">0.0</td><td data-field=\"median_interval\">2 s</td><td data-field=\"longest_interval\">2 s</td><t\
+    d data-field=\"hectares_100\">7.50 m²</td></tr>\n<tr data-animal=\"@x\"><td class=\"c2 n\" data-field=\"number\
+    \">3</td><th scope=\"row\"><bdi>@x</bdi></th><td data-field=\"records\">–</td><td data-field=\"used\">1</td><t\
+    d data-field=\"first\">14 Nov 2023</td><td data-field=\"last\">14 Nov 2023</td><td data-field=\"days\">0.0</td\
+    ><td data-field=\"median_interval\">–</td><td data-field=\"longest_interval\">–</td><td data-field=\"hectares_\
+    100\">0</td></tr>\n</tbody></table>",
     overlap: "Pairs of animals that meet: 1 of 3 (a fix of one lies in the 100 % polygon of the other, its edges included)\
     . Most of all <bdi>=1+1</bdi>: 3 (100 %) of its 3 fixes in the range of <bdi>&#x27;o b</bdi>.",
-    overlaps: "<p class=\"note\">Rows: whose fixes. Columns: in the range of the animal with this number.</p>\n<table id=\"ov\
-    erlaps\"><thead><tr><th></th><th class=\"name\">Fixes of</th><th class=\"c0\">1</th><th class=\"c1\">2</th><t\
-    h class=\"c2\">3</th></tr></thead>\n<tbody>\n<tr><td class=\"c0 n\">1</td><th><bdi>=1+1</bdi></th><td>–</td><t\
-    d data-animal=\"=1+1\" data-other=\"&#x27;o b\">3 (100 %)</td><td data-animal=\"=1+1\" data-other=\"@x\">0</td\
-    ></tr>\n<tr><td class=\"c1 n\">2</td><th><bdi>&#x27;o b</bdi></th><td data-animal=\"&#x27;o b\" data-other=\"=\
-    1+1\">1 (33 %)</td><td>–</td><td data-animal=\"&#x27;o b\" data-other=\"@x\">0</td></tr>\n<tr><td class=\"c2 n\
-    \">3</td><th><bdi>@x</bdi></th><td data-animal=\"@x\" data-other=\"=1+1\">0</td><td data-animal=\"@x\" data-ot\
-    her=\"&#x27;o b\">0</td><td>–</td></tr>\n</tbody></table>",
+    overlaps: "<p class=\"note\">Rows: whose fixes. Columns: in the range of the animal with this number.</p>\n\
+    <table id=\"overlaps\"><caption class=\"hidden\">Fixes of one animal in the range of another</caption><thead><\
+    tr><th></th><th scope=\"col\" class=\"name\">Fixes of</th><th scope=\"col\" class=\"c0\">1</th><th scope=\"col\
+    \" class=\"c1\">2</th><th scope=\"col\" class=\"c2\">3</th></tr></thead>\n<tbody>\n<tr><td class=\"c0 n\">1</t\
+    d><th scope=\"row\"><bdi>=1+1</bdi></th><td>–</td><td data-animal=\"=1+1\" data-other=\"&#x27;o b\">3 (100 %)<\
+    /td><td data-animal=\"=1+1\" data-other=\"@x\">0</td></tr>\n<tr><td class=\"c1 n\">2</td><th scope=\"row\"><bd\
+    i>&#x27;o b</bdi></th><td data-animal=\"&#x27;o b\" data-other=\"=1+1\">1 (33 %)</td><td>–</td><td data-animal\
+    =\"&#x27;o b\" data-other=\"@x\">0</td></tr>\n<tr><td class=\"c2 n\">3</td><th scope=\"row\"><bdi>@x</bdi></th\
+    ><td data-animal=\"@x\" data-other=\"=1+1\">0</td><td data-animal=\"@x\" data-other=\"&#x27;o b\">0</td><td>–<\
+    /td></tr>\n</tbody></table>",
     method: "Home ranges are minimum convex polygons (MCP) of 100 % of the fixes; that of all fixes is the one of M\
     ohr (1947). They were computed by homerange 1.0.0 from coordinates in whole metres, EPSG:32633 (WGS 84 / UTM zon\
     e 33N). Of n fixes, the polygon at p % has the p per cent of n, rounded up to whole fixes, that lie nearest to t\
@@ -118,34 +129,40 @@ pub(crate) const DECIMETRES: Case = Case {
     sentences: "<ul class=\"one\">\n<li><bdi>fox</bdi>: 95 % MCP 2.71 m², all 6 fixes, 14 Nov 2023</li>\n<li><bdi>ow\
     l</bdi>: 95 % MCP has no area, all 16 fixes, 14 Nov 2023</li>\n<li><bdi>cat</bdi>: 95 % MCP 0.02 m², all 4 fixes\
     , 14 Nov 2023</li>\n</ul>",
-    animals: "<table id=\"animals\" data-zone=\"UTC\">\n<thead><tr><th rowspan=\"2\"></th><th rowspan=\"2\" class=\"\
-    name\">Animal</th><th class=\"turned\" rowspan=\"2\"><span>in the data</span></th><th class=\"turned\" rowspan=\
-    \"2\"><span>used</span></th><th rowspan=\"2\">First</th><th rowspan=\"2\">Last</th><th rowspan=\"2\">Days</th><t\
-    h colspan=\"2\">Interval</th><th colspan=\"3\">MCP, ha</th></tr>\n<tr><th>median</th><th>longest</th><th>50 %</t\
-    h><th>95 %</th><th>100 %</th></tr></thead>\n<tbody>\n<tr data-animal=\"fox\"><td class=\"c0 n\" data-field=\"num\
-    ber\">1</td><th><bdi>fox</bdi></th><td data-field=\"records\">–</td><td data-field=\"used\">6</td><td data-field\
-    =\"first\">14 Nov 2023</td><td data-field=\"last\">14 Nov 2023</td><td data-field=\"days\">0.0</td><td data-fiel\
-    d=\"median_interval\">60 s</td><td data-field=\"longest_interval\">60 s</td><td data-field=\"hectares_50\">0.52 \
-    m²</td><td data-field=\"hectares_95\">2.71 m²</td><td data-field=\"hectares_100\">2.71 m²</td></tr>\n<tr data-an\
-    imal=\"owl\"><td class=\"c1 n\" data-field=\"number\">2</td><th><bdi>owl</bdi></th><td data-field=\"records\">–<\
-    /td><td data-field=\"used\">16</td><td data-field=\"first\">14 Nov 2023</td><td data-field=\"last\">14 Nov 2023<\
-    /td><td data-field=\"days\">0.0</td><td data-field=\"median_interval\">61 s</td><td data-field=\"longest_interva\
-    l\">61 s</td><td data-field=\"hectares_50\">0</td><td data-field=\"hectares_95\">0</td><td data-field=\"hectares\
-    _100\">0</td></tr>\n<tr data-animal=\"cat\"><td class=\"c2 n\" data-field=\"number\">3</td><th><bdi>cat</bdi></t\
-    h><td data-field=\"records\">–</td><td data-field=\"used\">4</td><td data-field=\"first\">14 Nov 2023</td><td da\
-    ta-field=\"last\">14 Nov 2023</td><td data-field=\"days\">0.0</td><td data-field=\"median_interval\">3 s</td><td \
-    data-field=\"longest_interval\">5 s</td><td data-field=\"hectares_50\">0</td><td data-field=\"hectares_95\">0.02 \
-    m²</td><td data-field=\"hectares_100\">0.02 m²</td></tr>\n</tbody></table>",
+    animals: "<table id=\"animals\" data-zone=\"UTC\">\n<caption class=\"hidden\">Fixes, times and areas of ea\
+    ch animal</caption>\n<thead><tr><th rowspan=\"2\"></th><th scope=\"col\" rowspan=\"2\" class=\"name\">Animal</\
+    th><th scope=\"col\" class=\"turned\" rowspan=\"2\"><span>in the data</span></th><th scope=\"col\" class=\"tur\
+    ned\" rowspan=\"2\"><span>used</span></th><th scope=\"col\" rowspan=\"2\">First</th><th scope=\"col\" rowspan=\
+    \"2\">Last</th><th scope=\"col\" rowspan=\"2\">Days</th><th scope=\"colgroup\" colspan=\"2\">Interval</th><th \
+    scope=\"colgroup\" colspan=\"3\">MCP, ha</th></tr>\n<tr><th scope=\"col\">median</th><th scope=\"col\">longest\
+    </th><th scope=\"col\" class=\"ha\">50 %</th><th scope=\"col\" class=\"ha\">95 %</th><th scope=\"col\" class=\
+    \"ha\">100 %</th></tr></thead>\n<tbody>\n<tr data-animal=\"fox\"><td class=\"c0 n\" data-field=\"number\">1</t\
+    d><th scope=\"row\"><bdi>fox</bdi></th><td data-field=\"records\">–</td><td data-field=\"used\">6</td><td data\
+    -field=\"first\">14 Nov 2023</td><td data-field=\"last\">14 Nov 2023</td><td data-field=\"days\">0.0</td><td d\
+    ata-field=\"median_interval\">60 s</td><td data-field=\"longest_interval\">60 s</td><td data-field=\"hectares_\
+    50\">0.52 m²</td><td data-field=\"hectares_95\">2.71 m²</td><td data-field=\"hectares_100\">2.71 m²</td></tr>\
+    \n<tr data-animal=\"owl\"><td class=\"c1 n\" data-field=\"number\">2</td><th scope=\"row\"><bdi>owl</bdi></th>\
+    <td data-field=\"records\">–</td><td data-field=\"used\">16</td><td data-field=\"first\">14 Nov 2023</td><td d\
+    ata-field=\"last\">14 Nov 2023</td><td data-field=\"days\">0.0</td><td data-field=\"median_interval\">61 s</td\
+    ><td data-field=\"longest_interval\">61 s</td><td data-field=\"hectares_50\">0</td><td data-field=\"hectares_9\
+    5\">0</td><td data-field=\"hectares_100\">0</td></tr>\n<tr data-animal=\"cat\"><td class=\"c2 n\" data-field=\
+    \"number\">3</td><th scope=\"row\"><bdi>cat</bdi></th><td data-field=\"records\">–</td><td data-field=\"used\"\
+    >4</td><td data-field=\"first\">14 Nov 2023</td><td data-field=\"last\">14 Nov 2023</td><td data-field=\"days\
+    \">0.0</td><td data-field=\"median_interval\">3 s</td><td data-field=\"longest_interval\">5 s</td><td data-fie\
+    ld=\"hectares_50\">0</td><td data-field=\"hectares_95\">0.02 m²</td><td data-field=\"hectares_100\">0.02 m²</t\
+    d></tr>\n</tbody></table>",
     overlap: "Pairs of animals that meet: 3 of 3 (a fix of one lies in the 100 % polygon of the other, its edges included)\
     . Most of all <bdi>cat</bdi>: 2 (50 %) of its 4 fixes in the range of <bdi>fox</bdi>.",
-    overlaps: "<p class=\"note\">Rows: whose fixes. Columns: in the range of the animal with this number.</p>\n<table id=\"ov\
-    erlaps\"><thead><tr><th></th><th class=\"name\">Fixes of</th><th class=\"c0\">1</th><th class=\"c1\">2</th><t\
-    h class=\"c2\">3</th></tr></thead>\n<tbody>\n<tr><td class=\"c0 n\">1</td><th><bdi>fox</bdi></th><td>–</td><t\
-    d data-animal=\"fox\" data-other=\"owl\">1 (17 %)</td><td data-animal=\"fox\" data-other=\"cat\">1 (17 %)</td>\
-    </tr>\n<tr><td class=\"c1 n\">2</td><th><bdi>owl</bdi></th><td data-animal=\"owl\" data-other=\"fox\">2 (13 %)\
-    </td><td>–</td><td data-animal=\"owl\" data-other=\"cat\">1 (6 %)</td></tr>\n<tr><td class=\"c2 n\">3</td><th>\
-    <bdi>cat</bdi></th><td data-animal=\"cat\" data-other=\"fox\">2 (50 %)</td><td data-animal=\"cat\" data-other=\
-    \"owl\">1 (25 %)</td><td>–</td></tr>\n</tbody></table>",
+    overlaps: "<p class=\"note\">Rows: whose fixes. Columns: in the range of the animal with this number.</p>\n\
+    <table id=\"overlaps\"><caption class=\"hidden\">Fixes of one animal in the range of another</caption><thead><\
+    tr><th></th><th scope=\"col\" class=\"name\">Fixes of</th><th scope=\"col\" class=\"c0\">1</th><th scope=\"col\
+    \" class=\"c1\">2</th><th scope=\"col\" class=\"c2\">3</th></tr></thead>\n<tbody>\n<tr><td class=\"c0 n\">1</t\
+    d><th scope=\"row\"><bdi>fox</bdi></th><td>–</td><td data-animal=\"fox\" data-other=\"owl\">1 (17 %)</td><td d\
+    ata-animal=\"fox\" data-other=\"cat\">1 (17 %)</td></tr>\n<tr><td class=\"c1 n\">2</td><th scope=\"row\"><bdi>\
+    owl</bdi></th><td data-animal=\"owl\" data-other=\"fox\">2 (13 %)</td><td>–</td><td data-animal=\"owl\" data-o\
+    ther=\"cat\">1 (6 %)</td></tr>\n<tr><td class=\"c2 n\">3</td><th scope=\"row\"><bdi>cat</bdi></th><td data-ani\
+    mal=\"cat\" data-other=\"fox\">2 (50 %)</td><td data-animal=\"cat\" data-other=\"owl\">1 (25 %)</td><td>–</td>\
+    </tr>\n</tbody></table>",
     method: "Home ranges are minimum convex polygons (MCP) of 100 %, 95 % and 50 % of the fixes; that of all fixes \
     is the one of Mohr (1947). They were computed by homerange 1.0.0 from coordinates in whole decimetres, EPSG:3263\
     3 (WGS 84 / UTM zone 33N). Of n fixes, the polygon at p % has the p per cent of n, rounded up to whole fixes, th\
@@ -164,25 +181,30 @@ pub(crate) const SECONDS: Case = Case {
     sentences: "<ul class=\"one\">\n<li><bdi>fox</bdi>: 100 % MCP 12.0 ha, 4 fixes, day 1 to 106752; over the last q\
     uarter of the days it grew by 50.0 %</li>\n<li><bdi>owl</bdi>: 100 % MCP 28.0 ha, 3 fixes, day 1 to 12725830; ov\
     er the last quarter of the days it grew by 100.0 %</li>\n</ul>",
-    animals: "<table id=\"animals\" data-zone=\"UTC\">\n<thead><tr><th rowspan=\"2\"></th><th rowspan=\"2\" class=\"\
-    name\">Animal</th><th class=\"turned\" rowspan=\"2\"><span>in the data</span></th><th class=\"turned\" rowspan=\
-    \"2\"><span>used</span></th><th rowspan=\"2\">First</th><th rowspan=\"2\">Last</th><th rowspan=\"2\">Days</th><t\
-    h colspan=\"2\">Interval</th><th colspan=\"1\">MCP, ha</th></tr>\n<tr><th>median</th><th>longest</th><th>100 %</\
-    th></tr></thead>\n<tbody>\n<tr data-animal=\"fox\"><td class=\"c0 n\" data-field=\"number\">1</td><th><bdi>fox</\
-    bdi></th><td data-field=\"records\">–</td><td data-field=\"used\">4</td><td data-field=\"first\">day 1</td><td d\
-    ata-field=\"last\">day 106752</td><td data-field=\"days\">106,752</td><td data-field=\"median_interval\">9.0 d</\
-    td><td data-field=\"longest_interval\">106,742.0 d</td><td data-field=\"hectares_100\">12.0</td></tr>\n<tr data-\
-    animal=\"owl\"><td class=\"c1 n\" data-field=\"number\">2</td><th><bdi>owl</bdi></th><td data-field=\"records\">\
-    –</td><td data-field=\"used\">3</td><td data-field=\"first\">day 1</td><td data-field=\"last\">day 12725830</td>\
-    <td data-field=\"days\">12,725,829</td><td data-field=\"median_interval\">6,362,914.5 d</td><td data-field=\"lon\
-    gest_interval\">12,619,077.0 d</td><td data-field=\"hectares_100\">28.0</td></tr>\n</tbody></table>",
+    animals: "<table id=\"animals\" data-zone=\"UTC\">\n<caption class=\"hidden\">Fixes, times and areas of ea\
+    ch animal</caption>\n<thead><tr><th rowspan=\"2\"></th><th scope=\"col\" rowspan=\"2\" class=\"name\">Animal</\
+    th><th scope=\"col\" class=\"turned\" rowspan=\"2\"><span>in the data</span></th><th scope=\"col\" class=\"tur\
+    ned\" rowspan=\"2\"><span>used</span></th><th scope=\"col\" rowspan=\"2\">First</th><th scope=\"col\" rowspan=\
+    \"2\">Last</th><th scope=\"col\" rowspan=\"2\">Days</th><th scope=\"colgroup\" colspan=\"2\">Interval</th><th \
+    scope=\"colgroup\" colspan=\"1\">MCP, ha</th></tr>\n<tr><th scope=\"col\">median</th><th scope=\"col\">longest\
+    </th><th scope=\"col\" class=\"ha\">100 %</th></tr></thead>\n<tbody>\n<tr data-animal=\"fox\"><td class=\"c0 n\
+    \" data-field=\"number\">1</td><th scope=\"row\"><bdi>fox</bdi></th><td data-field=\"records\">–</td><td data-\
+    field=\"used\">4</td><td data-field=\"first\">day 1</td><td data-field=\"last\">day 106752</td><td data-field=\
+    \"days\">106,752</td><td data-field=\"median_interval\">9.0 d</td><td data-field=\"longest_interval\">106,742.\
+    0 d</td><td data-field=\"hectares_100\">12.0</td></tr>\n<tr data-animal=\"owl\"><td class=\"c1 n\" data-field=\
+    \"number\">2</td><th scope=\"row\"><bdi>owl</bdi></th><td data-field=\"records\">–</td><td data-field=\"used\"\
+    >3</td><td data-field=\"first\">day 1</td><td data-field=\"last\">day 12725830</td><td data-field=\"days\">12,\
+    725,829</td><td data-field=\"median_interval\">6,362,914.5 d</td><td data-field=\"longest_interval\">12,619,07\
+    7.0 d</td><td data-field=\"hectares_100\">28.0</td></tr>\n</tbody></table>",
     overlap: "Pairs of animals that meet: 1 of 1 (a fix of one lies in the 100 % polygon of the other, its edges included)\
     . Most of all <bdi>owl</bdi>: 1 (33 %) of its 3 fixes in the range of <bdi>fox</bdi>.",
-    overlaps: "<p class=\"note\">Rows: whose fixes. Columns: in the range of the animal with this number.</p>\n<table id=\"ov\
-    erlaps\"><thead><tr><th></th><th class=\"name\">Fixes of</th><th class=\"c0\">1</th><th class=\"c1\">2</th></t\
-    r></thead>\n<tbody>\n<tr><td class=\"c0 n\">1</td><th><bdi>fox</bdi></th><td>–</td><td data-animal=\"fox\" dat\
-    a-other=\"owl\">1 (25 %)</td></tr>\n<tr><td class=\"c1 n\">2</td><th><bdi>owl</bdi></th><td data-animal=\"owl\
-    \" data-other=\"fox\">1 (33 %)</td><td>–</td></tr>\n</tbody></table>",
+    overlaps: "<p class=\"note\">Rows: whose fixes. Columns: in the range of the animal with this number.</p>\n\
+    <table id=\"overlaps\"><caption class=\"hidden\">Fixes of one animal in the range of another</caption><thead><\
+    tr><th></th><th scope=\"col\" class=\"name\">Fixes of</th><th scope=\"col\" class=\"c0\">1</th><th scope=\"col\
+    \" class=\"c1\">2</th></tr></thead>\n<tbody>\n<tr><td class=\"c0 n\">1</td><th scope=\"row\"><bdi>fox</bdi></t\
+    h><td>–</td><td data-animal=\"fox\" data-other=\"owl\">1 (25 %)</td></tr>\n<tr><td class=\"c1 n\">2</td><th sc\
+    ope=\"row\"><bdi>owl</bdi></th><td data-animal=\"owl\" data-other=\"fox\">1 (33 %)</td><td>–</td></tr>\n</tbod\
+    y></table>",
     method: "Home ranges are minimum convex polygons (MCP) of 100 % of the fixes; that of all fixes is the one of M\
     ohr (1947). They were computed by homerange 1.0.0 from coordinates in whole metres, EPSG:32633 (WGS 84 / UTM zon\
     e 33N). Of n fixes, the polygon at p % has the p per cent of n, rounded up to whole fixes, that lie nearest to t\
@@ -202,20 +224,25 @@ pub(crate) const MANY_LEVELS: Case = Case {
     11331\npercent,fox,100,12,7,11331\nend,1\n",
     sentences: "<ul class=\"one\">\n<li><bdi>fox</bdi>: 95 % MCP 5,666 m², all 12 fixes, 14 to 15 Nov 2023</li>\n</u\
     l>",
-    animals: "<table id=\"animals\" data-zone=\"UTC\">\n<thead><tr><th rowspan=\"2\"></th><th rowspan=\"2\" class=\"\
-    name\">Animal</th><th class=\"turned\" rowspan=\"2\"><span>in the data</span></th><th class=\"turned\" rowspan=\
-    \"2\"><span>used</span></th><th rowspan=\"2\">First</th><th rowspan=\"2\">Last</th><th rowspan=\"2\">Days</th><t\
-    h colspan=\"2\">Interval</th></tr>\n<tr><th>median</th><th>longest</th></tr></thead>\n<tbody>\n<tr data-animal=\
-    \"fox\"><td class=\"c0 n\" data-field=\"number\">1</td><th><bdi>fox</bdi></th><td data-field=\"records\">–</td><\
-    td data-field=\"used\">12</td><td data-field=\"first\">14 Nov 2023</td><td data-field=\"last\">15 Nov 2023</td><\
-    td data-field=\"days\">0.5</td><td data-field=\"median_interval\">60 min</td><td data-field=\"longest_interval\"\
-    >60 min</td></tr>\n</tbody></table>\n<table id=\"areas\"><thead><tr><th rowspan=\"2\"></th><th rowspan=\"2\" cla\
-    ss=\"name\">Animal</th><th colspan=\"8\">MCP, ha</th></tr>\n<tr><th>10 %</th><th>20 %</th><th>30 %</th><th>40 %<\
-    /th><th>50 %</th><th>60 %</th><th>95 %</th><th>100 %</th></tr></thead>\n<tbody>\n<tr data-animal=\"fox\"><td cla\
-    ss=\"c0 n\" data-field=\"number\">1</td><th><bdi>fox</bdi></th><td data-field=\"hectares_10\">0</td><td data-fie\
-    ld=\"hectares_20\">0</td><td data-field=\"hectares_30\">0</td><td data-field=\"hectares_40\">0</td><td data-fiel\
-    d=\"hectares_50\">0</td><td data-field=\"hectares_60\">0</td><td data-field=\"hectares_95\">5,666 m²</td><td dat\
-    a-field=\"hectares_100\">5,666 m²</td></tr>\n</tbody></table>",
+    animals: "<table id=\"animals\" data-zone=\"UTC\">\n<caption class=\"hidden\">Fixes, times and areas of ea\
+    ch animal</caption>\n<thead><tr><th rowspan=\"2\"></th><th scope=\"col\" rowspan=\"2\" class=\"name\">Animal</\
+    th><th scope=\"col\" class=\"turned\" rowspan=\"2\"><span>in the data</span></th><th scope=\"col\" class=\"tur\
+    ned\" rowspan=\"2\"><span>used</span></th><th scope=\"col\" rowspan=\"2\">First</th><th scope=\"col\" rowspan=\
+    \"2\">Last</th><th scope=\"col\" rowspan=\"2\">Days</th><th scope=\"colgroup\" colspan=\"2\">Interval</th></tr\
+    >\n<tr><th scope=\"col\">median</th><th scope=\"col\">longest</th></tr></thead>\n<tbody>\n<tr data-animal=\"fo\
+    x\"><td class=\"c0 n\" data-field=\"number\">1</td><th scope=\"row\"><bdi>fox</bdi></th><td data-field=\"recor\
+    ds\">–</td><td data-field=\"used\">12</td><td data-field=\"first\">14 Nov 2023</td><td data-field=\"last\">15 \
+    Nov 2023</td><td data-field=\"days\">0.5</td><td data-field=\"median_interval\">60 min</td><td data-field=\"lo\
+    ngest_interval\">60 min</td></tr>\n</tbody></table>\n<table id=\"areas\"><caption class=\"hidden\">Areas at ea\
+    ch level</caption><thead><tr><th rowspan=\"2\"></th><th scope=\"col\" rowspan=\"2\" class=\"name\">Animal</th>\
+    <th scope=\"colgroup\" colspan=\"8\">MCP, ha</th></tr>\n<tr><th scope=\"col\" class=\"ha\">10 %</th><th scope=\
+    \"col\" class=\"ha\">20 %</th><th scope=\"col\" class=\"ha\">30 %</th><th scope=\"col\" class=\"ha\">40 %</th>\
+    <th scope=\"col\" class=\"ha\">50 %</th><th scope=\"col\" class=\"ha\">60 %</th><th scope=\"col\" class=\"ha\"\
+    >95 %</th><th scope=\"col\" class=\"ha\">100 %</th></tr></thead>\n<tbody>\n<tr data-animal=\"fox\"><td class=\
+    \"c0 n\" data-field=\"number\">1</td><th scope=\"row\"><bdi>fox</bdi></th><td data-field=\"hectares_10\">0</td\
+    ><td data-field=\"hectares_20\">0</td><td data-field=\"hectares_30\">0</td><td data-field=\"hectares_40\">0</t\
+    d><td data-field=\"hectares_50\">0</td><td data-field=\"hectares_60\">0</td><td data-field=\"hectares_95\">5,6\
+    66 m²</td><td data-field=\"hectares_100\">5,666 m²</td></tr>\n</tbody></table>",
     overlap: "There is one animal, and so no overlap.",
     overlaps: "",
     method: "Home ranges are minimum convex polygons (MCP) of 100 %, 95 %, 60 %, 50 %, 40 %, 30 %, 20 % and 10 % of \
@@ -231,51 +258,57 @@ pub(crate) const MANY_LEVELS: Case = Case {
 pub(crate) const PAIRS_OF_THIRTEEN: (&str, &str) = (
     "Pairs of animals that meet: 21 of 78 (a fix of one lies in the 100 % polygon of the other, its edges included)\
     . Most of all <bdi>a0</bdi>: 3 (100 %) of its 3 fixes in the range of <bdi>a2</bdi>.",
-    "<p class=\"note\">Pairs are sorted by the greater of both shares.</p>\n<table id=\"overlaps\"><thead><tr><th><\
-    /th><th class=\"name\">A</th><th></th><th class=\"name\">B</th><th>fixes of A in the range of B</th><th>fixe\
-    s of B in the range of A</th></tr></thead>\n<tbody>\n<tr><td class=\"c0 n\">1</td><th><bdi>a0</bdi></th><td cl\
-    ass=\"c2 n\">3</td><th><bdi>a2</bdi></th><td data-animal=\"a0\" data-other=\"a2\">3 (100 %)</td><td data-anima\
-    l=\"a2\" data-other=\"a0\">3 (100 %)</td></tr>\n<tr><td class=\"c0 n\">1</td><th><bdi>a0</bdi></th><td class=\
-    \"c1 n\">9</td><th><bdi>a8</bdi></th><td data-animal=\"a0\" data-other=\"a8\">3 (100 %)</td><td data-animal=\
-    \"a8\" data-other=\"a0\">3 (100 %)</td></tr>\n<tr><td class=\"c2 n\">3</td><th><bdi>a2</bdi></th><td class=\"c\
-    6 n\">7</td><th><bdi>a6</bdi></th><td data-animal=\"a2\" data-other=\"a6\">3 (100 %)</td><td data-animal=\"a6\
-    \" data-other=\"a2\">3 (100 %)</td></tr>\n<tr><td class=\"c2 n\">3</td><th><bdi>a2</bdi></th><td class=\"c5 n\
-    \">13</td><th><bdi>a12</bdi></th><td data-animal=\"a2\" data-other=\"a12\">3 (100 %)</td><td data-animal=\"a12\
-    \" data-other=\"a2\">3 (100 %)</td></tr>\n<tr><td class=\"c4 n\">5</td><th><bdi>a4</bdi></th><td class=\"c3 n\
-    \">11</td><th><bdi>a10</bdi></th><td data-animal=\"a4\" data-other=\"a10\">3 (100 %)</td><td data-animal=\"a10\
-    \" data-other=\"a4\">3 (100 %)</td></tr>\n<tr><td class=\"c6 n\">7</td><th><bdi>a6</bdi></th><td class=\"c1 n\
-    \">9</td><th><bdi>a8</bdi></th><td data-animal=\"a6\" data-other=\"a8\">3 (100 %)</td><td data-animal=\"a8\" d\
-    ata-other=\"a6\">3 (100 %)</td></tr>\n<tr><td class=\"c1 n\">9</td><th><bdi>a8</bdi></th><td class=\"c5 n\">13\
-    </td><th><bdi>a12</bdi></th><td data-animal=\"a8\" data-other=\"a12\">3 (100 %)</td><td data-animal=\"a12\" da\
-    ta-other=\"a8\">3 (100 %)</td></tr>\n<tr><td class=\"c0 n\">1</td><th><bdi>a0</bdi></th><td class=\"c4 n\">5</\
-    td><th><bdi>a4</bdi></th><td data-animal=\"a0\" data-other=\"a4\">2 (67 %)</td><td data-animal=\"a4\" data-oth\
-    er=\"a0\">2 (67 %)</td></tr>\n<tr><td class=\"c0 n\">1</td><th><bdi>a0</bdi></th><td class=\"c3 n\">11</td><th\
-    ><bdi>a10</bdi></th><td data-animal=\"a0\" data-other=\"a10\">2 (67 %)</td><td data-animal=\"a10\" data-other=\
-    \"a0\">2 (67 %)</td></tr>\n<tr><td class=\"c2 n\">3</td><th><bdi>a2</bdi></th><td class=\"c1 n\">9</td><th><bd\
-    i>a8</bdi></th><td data-animal=\"a2\" data-other=\"a8\">2 (67 %)</td><td data-animal=\"a8\" data-other=\"a2\">\
-    2 (67 %)</td></tr>\n<tr><td class=\"c4 n\">5</td><th><bdi>a4</bdi></th><td class=\"c6 n\">7</td><th><bdi>a6</b\
-    di></th><td data-animal=\"a4\" data-other=\"a6\">2 (67 %)</td><td data-animal=\"a6\" data-other=\"a4\">2 (67 %\
-    )</td></tr>\n<tr><td class=\"c4 n\">5</td><th><bdi>a4</bdi></th><td class=\"c5 n\">13</td><th><bdi>a12</bdi></\
-    th><td data-animal=\"a4\" data-other=\"a12\">2 (67 %)</td><td data-animal=\"a12\" data-other=\"a4\">2 (67 %)</\
-    td></tr>\n<tr><td class=\"c6 n\">7</td><th><bdi>a6</bdi></th><td class=\"c3 n\">11</td><th><bdi>a10</bdi></th>\
-    <td data-animal=\"a6\" data-other=\"a10\">2 (67 %)</td><td data-animal=\"a10\" data-other=\"a6\">2 (67 %)</td>\
-    </tr>\n<tr><td class=\"c3 n\">11</td><th><bdi>a10</bdi></th><td class=\"c5 n\">13</td><th><bdi>a12</bdi></th><\
-    td data-animal=\"a10\" data-other=\"a12\">2 (67 %)</td><td data-animal=\"a12\" data-other=\"a10\">2 (67 %)</td\
-    ></tr>\n<tr><td class=\"c0 n\">1</td><th><bdi>a0</bdi></th><td class=\"c6 n\">7</td><th><bdi>a6</bdi></th><t\
-    d data-animal=\"a0\" data-other=\"a6\">1 (33 %)</td><td data-animal=\"a6\" data-other=\"a0\">1 (33 %)</td></tr\
-    >\n<tr><td class=\"c0 n\">1</td><th><bdi>a0</bdi></th><td class=\"c5 n\">13</td><th><bdi>a12</bdi></th><td dat\
-    a-animal=\"a0\" data-other=\"a12\">1 (33 %)</td><td data-animal=\"a12\" data-other=\"a0\">1 (33 %)</td></tr>\
-    \n<tr><td class=\"c2 n\">3</td><th><bdi>a2</bdi></th><td class=\"c4 n\">5</td><th><bdi>a4</bdi></th><td data-a\
-    nimal=\"a2\" data-other=\"a4\">1 (33 %)</td><td data-animal=\"a4\" data-other=\"a2\">1 (33 %)</td></tr>\n<tr><\
-    td class=\"c2 n\">3</td><th><bdi>a2</bdi></th><td class=\"c3 n\">11</td><th><bdi>a10</bdi></th><td data-animal\
-    =\"a2\" data-other=\"a10\">1 (33 %)</td><td data-animal=\"a10\" data-other=\"a2\">1 (33 %)</td></tr>\n<tr><t\
-    d class=\"c4 n\">5</td><th><bdi>a4</bdi></th><td class=\"c1 n\">9</td><th><bdi>a8</bdi></th><td data-animal=\
-    \"a4\" data-other=\"a8\">1 (33 %)</td><td data-animal=\"a8\" data-other=\"a4\">1 (33 %)</td></tr>\n<tr><td cla\
-    ss=\"c6 n\">7</td><th><bdi>a6</bdi></th><td class=\"c5 n\">13</td><th><bdi>a12</bdi></th><td data-animal=\"a6\
-    \" data-other=\"a12\">1 (33 %)</td><td data-animal=\"a12\" data-other=\"a6\">1 (33 %)</td></tr>\n<tr><td class\
-    =\"c1 n\">9</td><th><bdi>a8</bdi></th><td class=\"c3 n\">11</td><th><bdi>a10</bdi></th><td data-animal=\"a8\
-    \" data-other=\"a10\">1 (33 %)</td><td data-animal=\"a10\" data-other=\"a8\">1 (33 %)</td></tr>\n</tbody></tab\
-    le>",
+    "<p class=\"note\">Pairs are sorted by the greater of both shares.</p>\n<table id=\"overlaps\"><c\
+    aption class=\"hidden\">Fixes of one animal in the range of another</caption><thead><tr><th></th><th scope=\"c\
+    ol\" class=\"name\">A</th><th></th><th scope=\"col\" class=\"name\">B</th><th scope=\"col\">fixes of A in the \
+    range of B</th><th scope=\"col\">fixes of B in the range of A</th></tr></thead>\n<tbody>\n<tr><td class=\"c0 n\
+    \">1</td><th scope=\"row\"><bdi>a0</bdi></th><td class=\"c2 n\">3</td><th scope=\"row\"><bdi>a2</bdi></th><td \
+    data-animal=\"a0\" data-other=\"a2\">3 (100 %)</td><td data-animal=\"a2\" data-other=\"a0\">3 (100 %)</td></tr\
+    >\n<tr><td class=\"c0 n\">1</td><th scope=\"row\"><bdi>a0</bdi></th><td class=\"c1 n\">9</td><th scope=\"row\"\
+    ><bdi>a8</bdi></th><td data-animal=\"a0\" data-other=\"a8\">3 (100 %)</td><td data-animal=\"a8\" data-other=\"\
+    a0\">3 (100 %)</td></tr>\n<tr><td class=\"c2 n\">3</td><th scope=\"row\"><bdi>a2</bdi></th><td class=\"c6 n\">\
+    7</td><th scope=\"row\"><bdi>a6</bdi></th><td data-animal=\"a2\" data-other=\"a6\">3 (100 %)</td><td data-anim\
+    al=\"a6\" data-other=\"a2\">3 (100 %)</td></tr>\n<tr><td class=\"c2 n\">3</td><th scope=\"row\"><bdi>a2</bdi><\
+    /th><td class=\"c5 n\">13</td><th scope=\"row\"><bdi>a12</bdi></th><td data-animal=\"a2\" data-other=\"a12\">\
+    3 (100 %)</td><td data-animal=\"a12\" data-other=\"a2\">3 (100 %)</td></tr>\n<tr><td class=\"c4 n\">5</td><th \
+    scope=\"row\"><bdi>a4</bdi></th><td class=\"c3 n\">11</td><th scope=\"row\"><bdi>a10</bdi></th><td data-animal\
+    =\"a4\" data-other=\"a10\">3 (100 %)</td><td data-animal=\"a10\" data-other=\"a4\">3 (100 %)</td></tr>\n<tr><t\
+    d class=\"c6 n\">7</td><th scope=\"row\"><bdi>a6</bdi></th><td class=\"c1 n\">9</td><th scope=\"row\"><bdi>a8<\
+    /bdi></th><td data-animal=\"a6\" data-other=\"a8\">3 (100 %)</td><td data-animal=\"a8\" data-other=\"a6\">3 (1\
+    00 %)</td></tr>\n<tr><td class=\"c1 n\">9</td><th scope=\"row\"><bdi>a8</bdi></th><td class=\"c5 n\">13</td><t\
+    h scope=\"row\"><bdi>a12</bdi></th><td data-animal=\"a8\" data-other=\"a12\">3 (100 %)</td><td data-animal=\"a\
+    12\" data-other=\"a8\">3 (100 %)</td></tr>\n<tr><td class=\"c0 n\">1</td><th scope=\"row\"><bdi>a0</bdi></th><\
+    td class=\"c4 n\">5</td><th scope=\"row\"><bdi>a4</bdi></th><td data-animal=\"a0\" data-other=\"a4\">2 (67 %)<\
+    /td><td data-animal=\"a4\" data-other=\"a0\">2 (67 %)</td></tr>\n<tr><td class=\"c0 n\">1</td><th scope=\"row\
+    \"><bdi>a0</bdi></th><td class=\"c3 n\">11</td><th scope=\"row\"><bdi>a10</bdi></th><td data-animal=\"a0\" dat\
+    a-other=\"a10\">2 (67 %)</td><td data-animal=\"a10\" data-other=\"a0\">2 (67 %)</td></tr>\n<tr><td class=\"c2 \
+    n\">3</td><th scope=\"row\"><bdi>a2</bdi></th><td class=\"c1 n\">9</td><th scope=\"row\"><bdi>a8</bdi></th><t\
+    d data-animal=\"a2\" data-other=\"a8\">2 (67 %)</td><td data-animal=\"a8\" data-other=\"a2\">2 (67 %)</td></tr\
+    >\n<tr><td class=\"c4 n\">5</td><th scope=\"row\"><bdi>a4</bdi></th><td class=\"c6 n\">7</td><th scope=\"row\"\
+    ><bdi>a6</bdi></th><td data-animal=\"a4\" data-other=\"a6\">2 (67 %)</td><td data-animal=\"a6\" data-other=\"a\
+    4\">2 (67 %)</td></tr>\n<tr><td class=\"c4 n\">5</td><th scope=\"row\"><bdi>a4</bdi></th><td class=\"c5 n\">13\
+    </td><th scope=\"row\"><bdi>a12</bdi></th><td data-animal=\"a4\" data-other=\"a12\">2 (67 %)</td><td data-anim\
+    al=\"a12\" data-other=\"a4\">2 (67 %)</td></tr>\n<tr><td class=\"c6 n\">7</td><th scope=\"row\"><bdi>a6</bdi><\
+    /th><td class=\"c3 n\">11</td><th scope=\"row\"><bdi>a10</bdi></th><td data-animal=\"a6\" data-other=\"a10\">\
+    2 (67 %)</td><td data-animal=\"a10\" data-other=\"a6\">2 (67 %)</td></tr>\n<tr><td class=\"c3 n\">11</td><th s\
+    cope=\"row\"><bdi>a10</bdi></th><td class=\"c5 n\">13</td><th scope=\"row\"><bdi>a12</bdi></th><td data-animal\
+    =\"a10\" data-other=\"a12\">2 (67 %)</td><td data-animal=\"a12\" data-other=\"a10\">2 (67 %)</td></tr>\n<tr><t\
+    d class=\"c0 n\">1</td><th scope=\"row\"><bdi>a0</bdi></th><td class=\"c6 n\">7</td><th scope=\"row\"><bdi>a6<\
+    /bdi></th><td data-animal=\"a0\" data-other=\"a6\">1 (33 %)</td><td data-animal=\"a6\" data-other=\"a0\">1 (33\
+     %)</td></tr>\n<tr><td class=\"c0 n\">1</td><th scope=\"row\"><bdi>a0</bdi></th><td class=\"c5 n\">13</td><th \
+    scope=\"row\"><bdi>a12</bdi></th><td data-animal=\"a0\" data-other=\"a12\">1 (33 %)</td><td data-animal=\"a12\
+    \" data-other=\"a0\">1 (33 %)</td></tr>\n<tr><td class=\"c2 n\">3</td><th scope=\"row\"><bdi>a2</bdi></th><td \
+    class=\"c4 n\">5</td><th scope=\"row\"><bdi>a4</bdi></th><td data-animal=\"a2\" data-other=\"a4\">1 (33 %)</td\
+    ><td data-animal=\"a4\" data-other=\"a2\">1 (33 %)</td></tr>\n<tr><td class=\"c2 n\">3</td><th scope=\"row\"><\
+    bdi>a2</bdi></th><td class=\"c3 n\">11</td><th scope=\"row\"><bdi>a10</bdi></th><td data-animal=\"a2\" data-ot\
+    her=\"a10\">1 (33 %)</td><td data-animal=\"a10\" data-other=\"a2\">1 (33 %)</td></tr>\n<tr><td class=\"c4 n\">\
+    5</td><th scope=\"row\"><bdi>a4</bdi></th><td class=\"c1 n\">9</td><th scope=\"row\"><bdi>a8</bdi></th><td dat\
+    a-animal=\"a4\" data-other=\"a8\">1 (33 %)</td><td data-animal=\"a8\" data-other=\"a4\">1 (33 %)</td></tr>\n<t\
+    r><td class=\"c6 n\">7</td><th scope=\"row\"><bdi>a6</bdi></th><td class=\"c5 n\">13</td><th scope=\"row\"><bd\
+    i>a12</bdi></th><td data-animal=\"a6\" data-other=\"a12\">1 (33 %)</td><td data-animal=\"a12\" data-other=\"a6\
+    \">1 (33 %)</td></tr>\n<tr><td class=\"c1 n\">9</td><th scope=\"row\"><bdi>a8</bdi></th><td class=\"c3 n\">11<\
+    /td><th scope=\"row\"><bdi>a10</bdi></th><td data-animal=\"a8\" data-other=\"a10\">1 (33 %)</td><td data-anima\
+    l=\"a10\" data-other=\"a8\">1 (33 %)</td></tr>\n</tbody></table>",
 );
 
 // Of forty-one such animals.
@@ -316,18 +349,19 @@ pub(crate) const UNUSED_LEFT: &str =
 pub(crate) const OPTIONS: &str = " Options of the split: zone 33N, skip-unnamed, na.";
 
 pub(crate) const SUMS: &str =
-    "<tr><th>Export</th><td><bdi>a&amp;b.csv</bdi></td><td class=\"sum\" data-field=\"export_sha256\">0000000000000\
-    000000000000000000000000000000000000000000000000000</td></tr>\n<tr><th>Report</th><td>report.txt</td><td class\
-    =\"sum\" data-field=\"report_sha256\">1111111111111111111111111111111111111111111111111111111111111111</td></t\
-    r>\n<tr><th>Program</th><td>homerange 1.0.0</td><td class=\"sum\" data-field=\"program_sha256\">22222222222222\
-    22222222222222222222222222222222222222222222222222</td></tr>";
+    "<tr><th scope=\"row\">Export</th><td><bdi>a&amp;b.csv</bdi></td><td class=\"sum\" data-field=\"e\
+    xport_sha256\">0000000000000000000000000000000000000000000000000000000000000000</td></tr>\n<tr><th scope=\"row\
+    \">Report</th><td>report.txt</td><td class=\"sum\" data-field=\"report_sha256\">111111111111111111111111111111\
+    1111111111111111111111111111111111</td></tr>\n<tr><th scope=\"row\">Program</th><td>homerange 1.0.0</td><td cl\
+    ass=\"sum\" data-field=\"program_sha256\">2222222222222222222222222222222222222222222222222222222222222222</td\
+    ></tr>";
 
 pub(crate) const SUMS_OF_DATA: &str =
-    "<tr><th>Export</th><td></td><td class=\"sum\" data-field=\"export_sha256\">none: the tracks were made of a dat\
-    a frame</td></tr>\n<tr><th>Report</th><td>report.txt</td><td class=\"sum\" data-field=\"report_sha256\">111111\
-    1111111111111111111111111111111111111111111111111111111111</td></tr>\n<tr><th>Program</th><td>homerange 1.0.0<\
-    /td><td class=\"sum\" data-field=\"program_sha256\">2222222222222222222222222222222222222222222222222222222222\
-    222222</td></tr>";
+    "<tr><th scope=\"row\">Export</th><td></td><td class=\"sum\" data-field=\"export_sha256\">none: t\
+    he tracks were made of a data frame</td></tr>\n<tr><th scope=\"row\">Report</th><td>report.txt</td><td class=\
+    \"sum\" data-field=\"report_sha256\">1111111111111111111111111111111111111111111111111111111111111111</td></tr\
+    >\n<tr><th scope=\"row\">Program</th><td>homerange 1.0.0</td><td class=\"sum\" data-field=\"program_sha256\">2\
+    222222222222222222222222222222222222222222222222222222222222222</td></tr>";
 
 pub(crate) const VERIFY: (&str, &str) = (
     "Sums are SHA-256. This checks the folder that is handed in, and says what held and what was not looked at, i\

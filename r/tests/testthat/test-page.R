@@ -46,7 +46,7 @@ test_that("an export that is called as the text of a table is named, and that of
   utils::write.csv(deer, path, row.names = FALSE)
   checksum <- sub(" .*", "", system2("sha256sum", shQuote(path), stdout = TRUE))
   of_file <- page_of(quietly(home_range(path)))
-  expect_match(of_file, "<th>Export</th><td><bdi>fixes.csv</bdi></td>", fixed = TRUE)
+  expect_match(of_file, "<th scope=\"row\">Export</th><td><bdi>fixes.csv</bdi></td>", fixed = TRUE)
   expect_match(of_file, checksum, fixed = TRUE)
   of_table <- page_of(quietly(home_range(utils::read.csv(path))))
   expect_no_match(of_table, "fixes.csv", fixed = TRUE)

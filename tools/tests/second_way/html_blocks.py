@@ -9,12 +9,12 @@ from typing import NamedTuple, NoReturn
 
 from homerange_verifier.lines import Fault
 
-BLOCKS = {"title", "style", "h1", "h2", "p", "li", "th", "td", "figcaption"}
+BLOCKS = {"title", "style", "h1", "h2", "p", "li", "th", "td", "caption", "figcaption"}
 VOID = {"meta", "br"}
 TAGS = BLOCKS | VOID | set(
     "bdi span b code html head body header section div ul table thead tbody tr figure svg g path circle text".split())
 ATTRIBUTES = set(
-    "lang charset http-equiv content name class id rowspan colspan data-zone data-animal data-field data-other viewbox "
+    "lang charset http-equiv content name class id rowspan colspan scope data-zone data-animal data-field data-other viewbox "
     "role aria-label d x y cx cy r width height font-size text-anchor transform".split())
 Attributes = list[tuple[str, str | None]]
 BLANKS = re.compile("[ \t\n\r\f]+")

@@ -30,8 +30,9 @@ COLOURS = 7
 WIDEST = 10  # reasons, and levels counted twice, for which one table has room
 MOST_SENTENCES, MOST_IN_KEY, MOST_IN_SQUARE, MOST_PAIRS = 40, 40, 12, 60
 MOST_AT_FOOT = 80
+OVERLAPS = "Fixes of one animal in the range of another"
 MOST_SAID = 120
-KINDS = {"title": "title", "h1": "title", "h2": "heading", "p": "paragraph", "li": "sentence", "th": "heading", "td": "cell",
+KINDS = {"title": "title", "h1": "title", "h2": "heading", "p": "paragraph", "li": "sentence", "th": "heading", "td": "cell", "caption": "caption",
          "figcaption": "what stands above a curve", "svg": "label of a drawing", "meta": "head", "style": "style"}
 HEADINGS = {
     "animal": "no animal", "coordinates": "no place", "zero": "at 0, 0", "sensor": "other sensor",
@@ -50,6 +51,11 @@ SAMPLING = (
     "Places: how many different ones the fixes have. There twice: fixes with the second and the place of one before them. Two places "
     "at once: how many places more than one there are at one second, of all seconds. Half of the fixes: in how few days they are, of "
     "all days; days are periods of 24 hours from the first fix on. Fastest step: from a fix to the next.")
+
+
+def titles(caption: str, *texts: str) -> list[Block]:
+    """What stands above a table for those who do not see it, and its headings."""
+    return [Block("caption", "", caption), *th(*texts)]
 
 
 def th(*texts: str) -> list[Block]:
@@ -168,14 +174,14 @@ class Wanted:
         levels, reasons = self.run.levels, reasons_of(self.animals)
         is_one = 2 * len(levels) + len(reasons) <= WIDEST
         percents = [f"{level} %" for level in levels]
-        found = th(
-            "", "Animal", f"in the {self.source}", *["Left out"] * bool(reasons), "used", "First",
+        found = titles(
+            "Fixes, times and areas of each animal", "", "Animal", f"in the {self.source}", *["Left out"] * bool(reasons), "used", "First",
             "Last", "Days", "Interval", *["MCP, ha"] * is_one,
             *(HEADINGS[reason] for reason in reasons), "median", "longest", *(percents if is_one else ()))
         for animal, name in zip(self.animals, self.names):
             found += self.row(animal, name, {**self.facts(animal, reasons), **(self.areas(animal) if is_one else {})})
         if not is_one:
-            found += th("", "Animal", "MCP, ha", *percents)
+            found += titles("Areas at each level", "", "Animal", "MCP, ha", *percents)
             for animal, name in zip(self.animals, self.names):
                 found += self.row(animal, name, self.areas(animal))
         return [*found, *self.growth(), *self.sampling()]
@@ -184,15 +190,16 @@ class Wanted:
         """The table of how areas grew, and what its words mean."""
         last, level = ("last quarter of the days", "of the fixes"), self.level()
         quoted = level < 100
-        found = th("", "Animal", *[f"{level} % MCP"] * quoted, "100 % MCP", "One fix", *(*last, "since") * quoted, *last, "since fix",
-                   "date", "date", "makes")
+        found = titles("How the areas grew", "", "Animal", *[f"{level} % MCP"] * quoted, "100 % MCP", "One fix",
+                       *(*last, "since") * quoted, *last, "since fix", "date", "date", "makes")
         for animal, name in zip(self.animals, self.names):
             found += self.row(animal, name, self.basis(animal).growth())
         return [*found, Block("p", "", GROWTH)]
 
     def sampling(self) -> list[Block]:
         """The table of when and where fixes are, and what its words mean."""
-        found = th("", "Animal", "Places", "there twice", "two places at once", "half of the fixes in", "longest gap", "fastest step")
+        found = titles("When and where the fixes are", "", "Animal", "Places", "there twice", "two places at once", "half of the fixes in",
+                       "longest gap", "fastest step")
         for animal, name in zip(self.animals, self.names):
             found += self.row(animal, name, self.basis(animal).sampling())
         return [*found, Block("p", "", SAMPLING)]
@@ -260,7 +267,7 @@ class Wanted:
     def square(self) -> list[Block]:
         everyone = range(len(self.animals))
         found = [Block("p", "", "Rows: whose fixes. Columns: in the range of the animal with this number.")]
-        found += th("", "Fixes of", *(str(animal.number) for animal in self.animals))
+        found += titles(OVERLAPS, "", "Fixes of", *(str(animal.number) for animal in self.animals))
         for one in everyone:
             found += self.titled(one)
             found += [Block("td", "", shown.NOTHING) if one == other else self.overlap(one, other) for other in everyone]
@@ -270,7 +277,7 @@ class Wanted:
         chosen = sorted(self.meeting, key=self.rank)[:MOST_PAIRS]
         more = "" if len(chosen) == len(self.meeting) else f" The {MOST_PAIRS} pairs with the greatest shares are here."
         found = [Block("p", "", f"Pairs are sorted by the greater of both shares.{more}")]
-        found += th("", "A", "", "B", "fixes of A in the range of B", "fixes of B in the range of A")
+        found += titles(OVERLAPS, "", "A", "", "B", "fixes of A in the range of B", "fixes of B in the range of A")
         for one, other in chosen:
             found += [*self.titled(one), *self.titled(other), self.overlap(one, other), self.overlap(other, one)]
         return found
