@@ -143,8 +143,7 @@ fn push_level_heading(text: &mut Vec<u8>, level: u8, columns: u64) -> Result<(),
 // Appends the headings of the table.
 fn push_headings(text: &mut Vec<u8>, level: u8) -> Result<(), AllocError> {
     const LAST: &[u8] =
-        b"<th scope=\"col\">last quarter<br>of the days</th><th scope=\"col\">of the<br>fixes</th>\
-        <th scope=\"col\">since<br>day</th>";
+        b"<th scope=\"col\">last quarter<br>of the days</th><th scope=\"col\">of the<br>fixes</th>";
     text.extend_from_slice(b"<thead><tr>")?;
     text.extend_from_slice(ANIMAL)?;
     if level < ALL {
@@ -154,6 +153,7 @@ fn push_headings(text: &mut Vec<u8>, level: u8) -> Result<(), AllocError> {
     text.extend_from_slice(b"<th scope=\"colgroup\" colspan=\"2\">One fix</th></tr>\n<tr>")?;
     if level < ALL {
         text.extend_from_slice(LAST)?;
+        text.extend_from_slice(b"<th scope=\"col\">since</th>")?;
     }
     text.extend_from_slice(LAST)?;
     text.extend_from_slice(
