@@ -1,6 +1,8 @@
 // The table of when and where fixes are: at how many places, which are there twice, in how few days half of them are, the longest
 // gap and the fastest step.
 
+ghost use Rattle.std.specs.Prelude.{◌<◌, ◌≤◌};
+
 use crate::animals::push_begin;
 use crate::cells::{NOTHING, push_count, push_count_cell, push_date_cell, push_end, push_start};
 use crate::headings::ANIMAL_ONCE;
@@ -26,7 +28,10 @@ const WORDS: &[u8] =
 const LONGEST: u128 = 1 << 64;
 
 // How many units a metre has.
-fn units_of_metre(unit: Scale) -> u128 {
+fn units_of_metre(unit: Scale) -> u128
+    ensures some { 0 < result }
+    ensures few { result ≤ 10 }
+{
     match unit {
         Scale::Metre => 1,
         Scale::Decimetre => 10,
