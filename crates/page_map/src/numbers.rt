@@ -29,10 +29,10 @@ pub(crate) const LARGE: Lettering = Lettering {
 };
 
 pub(crate) const DENSE: Lettering = Lettering {
-    height: 7_500,
-    digit: 2_325,
-    straight: 5_250,
-    slant: 3_675,
+    height: 10_500,
+    digit: 3_255,
+    straight: 7_350,
+    slant: 5_145,
 };
 
 // How many rings of places there are around a number.
