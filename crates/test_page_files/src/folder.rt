@@ -78,7 +78,7 @@ pub(crate) const OVERLAPS: &str = "fixes_of,a&b,fox\n\
 
 // The SHA-256 checksum of the page.
 pub(crate) const PAGE_SUM: &str =
-    "6cdea7734293c6d20aa27568457426f6a829280760fda4ba8e357d1143b7e7b8";
+    "180c3cdc42976b34ca4137f3b071f8e5d73bd2bd5d0ed4805626c26c69ade0d4";
 
 // What the program that made the report says of its version, and its checksum.
 pub(crate) const PROGRAM: &[u8] = b"homerange 1.0.0 (logic dac8208d650f15bf)";
