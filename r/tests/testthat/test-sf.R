@@ -49,7 +49,7 @@ test_that("points in degrees are projected, whatever their geographic system is"
     expect_lte(max(abs(found$easting - wanted$easting), abs(found$northing - wanted$northing)), 1)
     expect_identical(facts_of(found)$zone, "33N")
   }
-  expect_message(read_fixes(sf::st_transform(hare_points(), 4269)), "points of NAD83 are turned into longitude and latitude of WGS 84",
+  expect_message(read_fixes(sf::st_transform(hare_points(), 4258)), "points of ETRS89 are turned into longitude and latitude of WGS 84",
                  class = "homerange_guessed_note")
 })
 
