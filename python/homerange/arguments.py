@@ -4,9 +4,9 @@ from __future__ import annotations
 
 import functools
 import inspect
-from typing import Any, Callable, Iterable, NoReturn, TypeVar, cast
+from typing import Any, Callable, Iterable, Mapping, NoReturn, TypeVar, cast
 
-from .errors import refuse
+from .errors import refuse, shown
 
 Called = TypeVar("Called", bound=Callable[..., Any])
 
@@ -35,6 +35,15 @@ def refuse_argument(name: str, known: Iterable[str]) -> NoReturn:
     refuse(f"there is no argument {name}")
 
 
+def refuse_twice(name: str | None, named: Mapping[str, Any]) -> NoReturn:
+    """Refuses an argument too many, that of this name if it is there twice: x beside y names columns in other tools."""
+    if name == "x" and isinstance(named.get("y"), str) and isinstance(named["x"], str):
+        sides = [*zip(("lon", "lat"), (named["x"], named["y"]))]
+        refuse(f"x is the table: name columns of degrees by {', '.join(f'{side}={shown(title)}' for side, title in sides)}, and those of metres "
+               "by easting and northing")
+    refuse(f"there is an argument too many{'' if name is None else f': {name} is there twice'}")
+
+
 def says_ours(function: Called) -> Called:
     """A function that says which argument is missing, and of one that it has not what it is here, if another tool calls it so."""
     kinds = {name: own.kind for name, own in inspect.signature(function).parameters.items()}
@@ -52,7 +61,7 @@ def says_ours(function: Called) -> Called:
             refuse(f"{lost} is missing: {WANTED[lost]}")
         twice = next((name for name in [*kinds][:len(given)] if name in named), None)
         if len(given) > places or twice is not None:
-            refuse(f"there is an argument too many{'' if twice is None else f': {twice} is there twice'}")
+            refuse_twice(twice, named)
         return function(*given, **named)
 
     return cast(Called, called)

@@ -310,3 +310,13 @@ def test_warnings_are_of_the_line_that_called_the_package(ranges):
             warnings.simplefilter("always")
             call()
         assert heard and {own.filename for own in heard} == {__file__}
+
+
+def test_x_and_y_of_other_tools_are_no_columns():
+    table = pandas.DataFrame({"id": "A", "lon": [15.8, 15.9], "lat": [46.3, 46.4]})
+    said = "x is the table: name columns of degrees by lon='lon', lat='lat', and those of metres by easting and northing"
+    for read in (home_range, read_fixes):
+        with pytest.raises(FrameError, match=f"^{said}$"):
+            read(table, x="lon", y="lat")
+        with pytest.raises(FrameError, match="^there is an argument too many: x is there twice$"):
+            read(table, x=table)

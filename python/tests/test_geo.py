@@ -4,7 +4,7 @@ import re
 import pandas
 import pytest
 from exact import cloud, hull
-from frames import frame_of, told
+from frames import frame_of, quietly, told
 
 from homerange import FrameError, HomeRangeNote, home_range, read_fixes
 
@@ -79,7 +79,7 @@ def test_another_shape_than_a_point_is_refused():
     from shapely.geometry import LineString
 
     frame = without_first(LineString([(0, 0), (1, 1)]))
-    with pytest.raises(FrameError, match="^row 0: the geometry is a linestring, and points are wanted$") as fault:
+    with pytest.raises(FrameError, match="^row 0: the geometry is a linestring, and points are wanted: its vertices are no fixes unless they say when$") as fault:
         home_range(frame)
     assert (fault.value.kind, fault.value.record) == ("number", 1)
     assert home_range(frame.iloc[1:]).summary()["fixes"].tolist() == [29] * 3
@@ -161,3 +161,11 @@ def test_points_whose_sides_are_the_other_way_are_turned():
     columns = frame_of(a=[(46.0, 96.0)] * 3).rename(columns={"easting": "lon", "northing": "lat"})
     with pytest.raises(FrameError, match="are their columns to be named the other way, by lon and lat[?]$"):
         home_range(columns)
+
+
+def test_multipoints_are_refused_with_what_makes_points_of_them():
+    shapes = geopandas.GeoSeries.from_wkt(["MULTIPOINT (562000 5134000)", "MULTIPOINT (562200 5134000)"], crs=32633)
+    table = geopandas.GeoDataFrame({"animal": "hare"}, geometry=shapes, index=[0, 1])
+    with pytest.raises(FrameError, match="^row 0: the geometry is a multipoint, and points are wanted: frame.explode\\(\\) makes points of it$"):
+        read_fixes(table)
+    assert quietly(read_fixes, table.explode(index_parts=False))["easting"].tolist() == [562_000, 562_200]

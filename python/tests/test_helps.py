@@ -349,3 +349,22 @@ def test_values_in_place_of_a_title_and_several_moments_in_place_of_one():
         read_fixes(frame, since=frame["time"])
     with pytest.raises(FrameError, match="^until is missing, and a moment is wanted: leave until out where none is meant$"):
         read_fixes(frame, until=pandas.NaT)
+
+
+@pytest.mark.parametrize("cell, helps", [
+    ("\u22121.8", "the minus is another sign (U+2212): write -"), (" ", "blanks are no missing cell: empty the cell"),
+    ("   ", "blanks are no missing cell: empty the cell"),
+    ("15.805.895", "dots stand between thousands, or a spreadsheet took the decimal sign: mend the column"),
+    ("NaT", "if it stands for what is missing, name it, by na='NaT'")])
+def test_cells_that_are_no_numbers(cell, helps, tmp_path):
+    said = f"easting is '{cell}' and not a number of up to 12 digits: {helps}"
+    frame = PLACES.assign(easting=["500010", cell, "500040"])
+    assert refusal(frame) == (f"row 1: {said}", "number")
+    frame.to_csv(tmp_path / "t.csv", index=False)
+    assert refusal(tmp_path / "t.csv") == (f"{tmp_path / 't.csv'}: record 2: {said}", "number")
+
+
+@pytest.mark.parametrize("word", ["NaT", "nan"])
+def test_words_for_a_time_that_is_missing(word):
+    said = f"row 1: time is '{word}' and not a time such as 2024-05-01 00:30:04: if it stands for what is missing, name it, by na='{word}'"
+    assert refusal(PLACES.assign(time=["2024-05-01 10:00", word, "2024-05-01 12:00"])) == (said, "time")

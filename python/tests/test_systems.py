@@ -6,7 +6,8 @@ import pandas
 import pytest
 from frames import START, quietly
 
-from homerange import FrameError, home_range, read_fixes
+from homerange import FrameError, HomeRangeInfo, home_range, read_fixes
+from homerange.read.systems import worst_said
 
 geopandas = pytest.importorskip("geopandas")
 pyproj = pytest.importorskip("pyproj")
@@ -151,3 +152,52 @@ def test_x_and_y_of_other_systems_and_of_files(splitter, tmp_path):
     with pytest.raises(FrameError, match="^.*t.csv: crs: x of |^crs: x of "):
         read_fixes(tmp_path / "t.csv", crs=2180)
     assert quietly(read_fixes, tmp_path / "t.csv", crs=2180, easting="x", northing="y")["easting"].iloc[0] == 500_000
+
+
+def fixes_near(easting, northing, animal="lynx"):
+    """Fixes at a place as columns of eastings and northings."""
+    times = pandas.date_range(START, periods=3, freq="h")
+    return pandas.DataFrame({"animal": animal, "time": times, "easting": [easting, easting + 200, easting], "northing": [northing, northing, northing + 200]})
+
+
+def near_said(table, **options):
+    """Where fixes are said to lie."""
+    return [note for note in quietly(read_fixes, table, **options).reading.notes if note.startswith("near ")]
+
+
+KROVAK = "S-JTSK / Krovak East North is of 12.1 E to 22.6 E, 47.7 N to 51.1 N: easting and northing are"
+
+
+@pytest.mark.parametrize("easting, northing, crs, said", [
+    (742_000, 1_043_000, 5514, f"crs: the fixes lie near 41.5 E 68.5 N, and {KROVAK} without their signs, perhaps: give them a minus"),
+    (1_043_000, 742_000, 5514, f"{KROVAK} exchanged and without their signs, perhaps: give them the other way, and a minus"),
+    (463_000, 150_000, 28992, "7.2 E, 50.8 N to 53.7 N: easting and northing are exchanged, perhaps: give them the other way"),
+    (150_000, 463_000, 31370, "51.5 N: name the system that they have, or are easting and northing exchanged, or without their signs?")])
+def test_fixes_that_lie_elsewhere_than_their_system_are_refused(easting, northing, crs, said):
+    with pytest.raises(FrameError, match=f"{re.escape(said)}$") as fault:
+        read_fixes(fixes_near(easting, northing), crs=crs)
+    assert fault.value.kind == "crs"
+
+
+def test_where_fixes_lie_is_said():
+    with pytest.warns(HomeRangeInfo, match="^near 14.4 E 50.1 N by EPSG:5514$"):
+        fixes = read_fixes(fixes_near(-742_000, -1_043_000), crs=5514)
+    assert near_said(fixes_near(400_000, 4_630_000), crs=25833) == ["near 13.8 E 41.8 N by EPSG:25833"]  # a zone that is used beside its area
+    assert near_said(fixes_near(562_000, 5_134_000), crs=32633) == []  # of which the program says the place
+    both = pandas.concat([fixes_near(-742_000, -1_043_000), fixes_near(742_000, 1_043_000, "hare")])
+    assert near_said(both, crs=5514) == near_said(fixes) == ["near 14.4 E 50.1 N by EPSG:5514"]
+
+
+def test_degrees_are_held_to_the_area_of_their_system():
+    assert near_said(degrees_at(14.5, 46.1).set_crs(4258, allow_override=True)) == ["near 14.5 E 46.1 N by EPSG:4258"]
+    for place, crs, said in (((46.1, 14.5), 4258, "longitude and latitude are exchanged, perhaps: give them the other way"),
+                             ((110, 44), 4269, "longitude is without its sign, perhaps: give it a minus")):
+        with pytest.raises(FrameError, match=f": {said}$"):
+            read_fixes(degrees_at(*place).set_crs(crs, allow_override=True))
+
+
+def test_areas_are_asked_whether_the_axes_are_exchanged():
+    helps = "crs: areas of lynx are 127.19 % too great on this grid: take a zone or a reference system of the place"
+    for turned, asked in (({"lynx"}, ", or are easting and northing exchanged?"), ((), "")):
+        with pytest.raises(FrameError, match=f"^{re.escape(helps + asked)}$"):
+            worst_said("areas", {"lynx": 1.2719}, turned)

@@ -138,7 +138,7 @@ def test_points_are_columns(tmp_path):
         written(degrees, tmp_path)
     assert fault.value.kind == "degrees"
     mixed = metres.assign(geometry=[metres.geometry[0], metres.geometry[0].buffer(1)])
-    with pytest.raises(FrameError, match="^row 1: the geometry is a polygon, and points are wanted$"):
+    with pytest.raises(FrameError, match="^row 1: the geometry is a polygon, and points are wanted: its vertices are no fixes unless they say when$"):
         written(mixed, tmp_path)
 
 

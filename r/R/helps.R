@@ -64,6 +64,7 @@ help_for_clocks <- function(digits, own) {
 
 # A time that is joined of a day and a clock without its zeros, or of a day and hours with decimals.
 help_for_time <- function(found, frame) {
+  if (in_small(found[4]) %in% no_times) return(paste0(found[2], ": if it stands for what is missing, name it, by na = \"", found[4], "\""))
   far <- if (grepl("^(-?inf|[0-9]{5,}-.*)$", found[4])) help_for_far(found, frame)
   if (!is.null(far)) return(far)
   titles <- titles_of_time(frame)
@@ -121,11 +122,20 @@ day_of_all <- function(column) {
   if (length(days) > 1 && length(unique(days)) == 1) days[1]
 }
 
+# Cells that are no numbers, and what helps.
+odd_numbers <- list(
+  c("^\u2212", "the minus is another sign (U+2212): write -"), c("^ +$", "blanks are no missing cell: empty the cell"),
+  c("^[+-]?[0-9]{1,3}([.][0-9]{3}){2,}$", "dots stand between thousands, or a spreadsheet took the decimal sign: mend the column")
+)
+no_times <- c("nat", "nan")  # words for a time that is missing, in small letters
+
 # A number that is text and written otherwise than it is read.
 help_for_number <- function(found, frame) {
   titles <- titles_in(frame)
   at <- match(found[3], one_line(titles))
   column <- if (!is.na(at)) as.list(frame$x)[[at]]
+  odd <- Find(function(own) grepl(own[1], found[4], perl = TRUE), odd_numbers)
+  if (!is.null(odd)) return(paste0(found[2], ": ", odd[2]))
   if (!is.character(column) && !is.factor(column)) return(found[1])
   own <- paste0("x[[\"", titles[at], "\"]]")
   has_comma <- grepl("^-?[0-9]+,[0-9]+$", found[4])

@@ -4,6 +4,7 @@
 home_range <- function(x, levels = c(50, 95, 100), by = NULL, ..., progress = interactive(), quiet = FALSE) {
   if (missing(x)) refuse_missing("home_range")
   local_options(x, levels, by, ..., progress, quiet)
+  refuse_sides(x, levels, ...)
   levels <- checked_levels(levels)
   check_truth(quiet, "quiet")
   check_truth(progress, "progress")

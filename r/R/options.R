@@ -54,6 +54,15 @@ arguments_of_others <- c(
   share = "proportion", start = "origin", tz = "timezone time_zone"
 )
 
+# Refuses a table that is handed in beside x and y, which name columns in other tools.
+refuse_sides <- function(x, ...) {
+  y <- list(...)[["y"]]
+  if (is_text(x) && is_text(y) && any(vapply(list(...), is.data.frame, NA))) {
+    refuse("option", "x is the table: name columns of degrees by lon = \"", readable(x), "\", lat = \"", readable(y),
+           "\", and those of metres by easting and northing")
+  }
+}
+
 # The options that are given; NULL is no wish, and a zone of times that is empty is that of the session.
 options_given <- function(options) {
   check_options(options)

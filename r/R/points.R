@@ -28,12 +28,16 @@ places_of_frame <- function(x, given) {
   list(parts = points$parts, words = c(plane$words, points$words), crs = plane$crs)
 }
 
+help_for_multipoint <- "sf::st_cast(x, \"POINT\") makes points of it"
+help_for_vertices <- "its vertices are no fixes unless they say when"
+
 # The eastings and northings of points, NA where there is none.
 coordinates_of <- function(x, shapes) {
   kinds <- as.character(sf::st_geometry_type(shapes))
   is_there <- !sf::st_is_empty(shapes)
   odd <- which(kinds != "POINT" & is_there)[1]
-  if (!is.na(odd)) refuse_row(x, "number", odd, paste0("the geometry is a ", in_small(kinds[odd]), ", and points are wanted"))
+  if (!is.na(odd)) refuse_row(x, "number", odd, paste0("the geometry is a ", in_small(kinds[odd]), ", and points are wanted: ",
+                                                    if (kinds[odd] == "MULTIPOINT") help_for_multipoint else help_for_vertices))
   at <- matrix(NA_real_, length(shapes), 2)
   if (any(is_there)) at[is_there, ] <- sf::st_coordinates(shapes[is_there])[, 1:2]
   at
@@ -66,8 +70,10 @@ free_title <- function(title, titles) {
 points_in_degrees <- function(x, at, crs) {
   is_there <- is.finite(rowSums(at))
   is_other <- !(crs$epsg %in% 4326 || crs == sf::st_crs("OGC:CRS84"))
-  if (is_other && any(is_there)) at[is_there, ] <- in_degrees(at[is_there, , drop = FALSE], crs)
-  line <- if (is_other) paste0("points of ", crs$Name, " are turned into longitude and latitude of WGS 84")
+  own <- at[is_there, , drop = FALSE]
+  if (is_other && any(is_there)) at[is_there, ] <- in_degrees(own, crs)
+  line <- if (is_other) c(paste0("points of ", crs$Name, " are turned into longitude and latitude of WGS 84"),
+                          line_of_place(crs, own, c("longitude", "latitude")))
   c(list(line = line), points_as_columns(x, at, c("lon", "lat")))
 }
 

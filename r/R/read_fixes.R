@@ -4,6 +4,7 @@
 read_fixes <- function(x, ..., quiet = FALSE) {
   if (missing(x)) refuse_missing("read_fixes")
   local_options(x, ..., quiet)
+  refuse_sides(x, ...)
   check_truth(quiet, "quiet")
   fixes <- in_folder(function(folder) read_table(x, list(...), quiet, folder))$fixes
   as_read(fixes, union(facts_of(x)$titles, names(x)))
@@ -101,7 +102,7 @@ fixes_of_tracks <- function(into, tz, crs, said, further = function(record, fixe
   fixes <- read_tracks(into, record)
   table <- table_of_fixes(fixes, record, tz, further(record, fixes))
   if (!is.null(crs)) check_elsewhere(crs, record$said, table)
-  said <- c(vapply(said, as_arguments, "", USE.NAMES = FALSE), if (!is.null(crs)) check_scales(table, crs),
+  said <- c(vapply(said, as_arguments, "", USE.NAMES = FALSE), if (!is.null(crs)) c(line_of_place(crs, cbind(table$easting, table$northing)), check_scales(table, crs)),
             line_of_encoding(unname(own_names(record)[record$tracks$animal])))
   facts <- facts_of_record(record, file.path(into, "split.txt"), tz, crs, said)
   list(fixes = new_fixes(table, facts), said = said, tracks = tracks_named(into, record$tracks$animal, names(facts$fixes)))

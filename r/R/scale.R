@@ -16,17 +16,21 @@ check_scales <- function(table, crs) {
   away <- mapply(scales_of_crs(crs), means$easting, means$northing) - 1
   lost <- levels(animal)[!is.finite(colSums(away))]
   if (length(lost)) refuse_crs("the fixes of ", lost[1], " have no place on this grid", help_for_scale, kind = "scale")
-  unlist(lapply(rownames(away), function(what) line_of_worst(what, away[what, ], levels(animal))))
+  are_turned <- mapply(function(easting, northing) lie_so(crs, c(easting, northing), TRUE), means$easting, means$northing)
+  unlist(lapply(rownames(away), function(what) line_of_worst(what, away[what, ], levels(animal), are_turned)))
 }
 
-# What is said of the animal whose areas or lengths are most wrong; refused where that is too much.
-line_of_worst <- function(what, away, animals) {
+# What is said of the animal whose areas or lengths are most wrong; refused where that is too much, with what is asked of areas of those
+# that lie where the system is made for once their coordinates are exchanged.
+line_of_worst <- function(what, away, animals, are_turned) {
   place <- which.max(abs(away))
   worst <- away[[place]]
   share <- sprintf("%.2f %%", 100 * abs(worst))
   text <- if (what == "lengths") paste0("lengths of ", animals[place], " differ by up to ", share, " by direction on this grid") else
     paste0("areas of ", animals[place], " are ", share, " too ", if (worst > 0) "great" else "small", " on this grid")
-  if (abs(worst) > scales_refused[[what]]) refuse_crs(text, help_for_scale, kind = "scale")
+  if (abs(worst) > scales_refused[[what]]) {
+    refuse_crs(text, help_for_scale, if (what == "areas" && are_turned[[place]]) ", or are easting and northing exchanged?", kind = "scale")
+  }
   if (abs(worst) > scales_told[[what]]) text
 }
 

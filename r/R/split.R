@@ -5,7 +5,7 @@
 kinds_of_said <- c(
   "^coordinates are shifted " = "moved", "^coordinates are rounded " = "rounded", "^animal '.*' is named " = "renamed",
   "^(no column has a usual title|times are read as|all fixes are of the sensor|coordinates are those of|columns:|not read:) " = "guessed",
-  "^(UTM coordinates are|longitude and latitude are|days and hours are|points of|groups of the table are|ranges are by) " = "guessed",
+  "^(UTM coordinates are|longitude and latitude are|days and hours are|points of|groups of the table are|ranges are by|near) " = "guessed",
   "^column [0-9]+ '.*' is read as (eastings|northings|longitudes|latitudes|times)[ :]" = "guessed", "^by column " = "guessed",
   "^groups are not compared: " = "asked",
   "^[0-9]+ records lie in the hour that comes twice in " = "guessed",

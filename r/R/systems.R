@@ -31,6 +31,79 @@ check_elsewhere <- function(crs, said, table) {
              "or leave out the columns that are not theirs")
 }
 
+# Degrees beside the area of a reference system in which it is used too; and how systems are projected that whole countries use beside
+# their own area, where areas tell more.
+beside_area <- 1
+projection_of_zones <- "METHOD[\"Transverse Mercator"
+
+# What may be odd of two coordinates that lie elsewhere: whether they are exchanged, and what their signs are to be.
+odd_places <- list(
+  list("{0} and {1} are exchanged, perhaps: give them the other way", TRUE, c(1, 1)),
+  list("{0} and {1} are without their signs, perhaps: give them a minus", FALSE, c(-1, -1)),
+  list("{0} is without its sign, perhaps: give it a minus", FALSE, c(-1, 1)),
+  list("{1} is without its sign, perhaps: give it a minus", FALSE, c(1, -1)),
+  list("{0} and {1} are exchanged and without their signs, perhaps: give them the other way, and a minus", TRUE, c(-1, -1))
+)
+help_elsewhere <- "name the system that they have, or are {0} and {1} exchanged, or without their signs?"
+
+# The area of a reference system in degrees, to the south, west, north and east; NULL where it has none.
+area_of_crs <- function(crs) {
+  form <- "BBOX\\[([-+.0-9eE]+), *([-+.0-9eE]+), *([-+.0-9eE]+), *([-+.0-9eE]+)\\]"
+  found <- as.numeric(regmatches(crs$wkt, regexec(form, crs$wkt))[[1]][-1])
+  if (length(found)) `names<-`(found, c("south", "west", "north", "east"))
+}
+
+# Which of some places in degrees lie in an area, or near it.
+are_within <- function(area, degrees) {
+  wide <- (area[["east"]] - area[["west"]]) %% 360
+  if (wide == 0) wide <- 360
+  is_of_latitude <- degrees[, 2] >= area[["south"]] - beside_area & degrees[, 2] <= area[["north"]] + beside_area
+  is_within <- is_of_latitude & (degrees[, 1] - area[["west"]] + beside_area) %% 360 <= wide + 2 * beside_area
+  is.finite(rowSums(degrees)) & is_within
+}
+
+# Degrees as they are written, with where they go.
+placed <- function(degrees, ways) sprintf("%.1f %s", abs(degrees), ways[1 + (degrees < 0)])
+
+place_text <- function(degrees) {
+  if (!all(is.finite(degrees))) return("where that has no place")
+  paste("near", placed(degrees[1], c("E", "W")), placed(degrees[2], c("N", "S")))
+}
+
+# What is to be said of where fixes lie by their reference system: the middle of them, or else one that lies where the system is made
+# for. Refused if none does, unless it is a zone that has no other place for them.
+line_of_place <- function(crs, at, sides = c("easting", "northing")) {
+  at <- at[is.finite(rowSums(at)), , drop = FALSE]
+  if (!nrow(at)) return(NULL)
+  middle <- rbind((apply(at, 2, min) + apply(at, 2, max)) / 2)
+  place <- in_degrees(middle, crs)
+  area <- area_of_crs(crs)
+  if (!is.null(area) && !are_within(area, place)) {
+    several <- in_degrees(at, crs)
+    near <- which(are_within(area, several))[1]
+    if (is.na(near)) refuse_place(crs, area, place, middle, sides) else place <- several[near, , drop = FALSE]
+  }
+  if (all(is.finite(place))) paste(place_text(place), "by", sub("^([A-Za-z]+:[A-Za-z0-9]+) \\(.*\\)$", "\\1", text_of_crs(crs)))
+}
+
+# Refuses a reference system by which fixes lie elsewhere, with what is odd of their coordinates, if there is one such thing.
+refuse_place <- function(crs, area, place, middle, sides) {
+  likely <- Filter(function(odd) lie_so(crs, middle, odd[[2]], odd[[3]]), odd_places)
+  if (length(likely) != 1 && grepl(projection_of_zones, crs$wkt, fixed = TRUE)) return(invisible())
+  ways <- list(west = c("E", "W"), east = c("E", "W"), south = c("N", "S"), north = c("N", "S"))
+  own <- vapply(names(ways), function(side) placed(area[[side]], ways[[side]]), "")
+  helps <- if (length(likely) == 1) likely[[1]][[1]] else help_elsewhere
+  refuse_crs("the fixes lie ", place_text(place), ", and ", one_line(crs$Name), " is of ", own["west"], " to ", own["east"], ", ", own["south"],
+             " to ", own["north"], ": ", sub("{1}", sides[2], sub("{0}", sides[1], helps, fixed = TRUE), fixed = TRUE))
+}
+
+# Whether coordinates lie where their reference system is made for once they are exchanged, and those above 0 get these signs.
+lie_so <- function(crs, middle, is_exchanged, signs = c(1, 1)) {
+  area <- area_of_crs(crs)
+  own <- if (is_exchanged) rev(as.vector(middle)) else as.vector(middle)
+  !is.null(area) && all(own > 0 | signs > 0) && are_within(area, in_degrees(rbind(own * signs), crs))
+}
+
 # Refuses columns titled x and y, which nobody named as a side, of a system whose own x is the northing, as surveyors have it.
 check_turned_sides <- function(crs, said, given) {
   line <- in_small(sub(";.*", "", grep("^columns: ", said, value = TRUE)))

@@ -112,9 +112,21 @@ st_write.home_range <- function(obj, dsn, ...) {
     refuse("option", dsn, ": such a file has shapes of one kind, and a range of ", flat[1], " has no area: write ",
            "sf::st_as_sf(x, drop_flat = TRUE), which leaves such out")
   }
+  check_no_file(dsn, ...)
   sf::st_write(table, dsn, ...)
 }
-st_write.homerange_fixes <- function(obj, dsn, ...) sf::st_write(sf::st_as_sf(obj), dsn, ...)
+st_write.homerange_fixes <- function(obj, dsn, ...) {
+  check_no_file(dsn, ...)
+  sf::st_write(sf::st_as_sf(obj), dsn, ...)
+}
+
+# Refuses a file that is there, if nothing says what becomes of it, and no other layer of it is named.
+check_no_file <- function(dsn, layer = NULL, ...) {
+  says_more <- any(c("append", "delete_dsn", "delete_layer", "update") %in% names(list(...)))
+  if (says_more || !is_text(dsn) || !utils::file_test("-f", dsn)) return(invisible())
+  if (!is.null(layer) && !layer %in% sf::st_layers(dsn)$name) return(invisible())
+  refuse("option", dsn, " is there already: append = FALSE writes its layer anew, and delete_dsn = TRUE the file")
+}
 
 # A picture of ggplot2: polygons over fixes, or the curves of area.
 autoplot.home_range <- function(object, what = c("ranges", "curve"), levels = 100, fixes = TRUE, ...) {

@@ -21,6 +21,10 @@ DAYS = {"days since 1970": (7305, 32874, "unix"), "days of Excel": (32874, 49310
         "modified Julian days": (49310, 80000, "1858-11-17"), "Julian days": (2_400_000, 2_500_000, "julian")}
 PARTS = {13: ("milliseconds", "ms"), 16: ("microseconds", "us"), 19: ("nanoseconds", "ns")}  # since 1970, by their digits
 FAR = re.compile("[0-9]{5,}-.*")  # a day behind the year 9999
+# Cells that are no numbers, and what helps.
+ODD_NUMBERS = {"\u2212.*": "the minus is another sign (U+2212): write -", " +": "blanks are no missing cell: empty the cell",
+               "[+-]?[0-9]{1,3}([.][0-9]{3}){2,}": "dots stand between thousands, or a spreadsheet took the decimal sign: mend the column"}
+NO_TIMES = ("nat", "nan")  # words for a time that is missing, in small letters
 SIGN_HELPS = {"%f": "%S has the decimals of seconds: leave .%f out", "%T": "%H:%M:%S stands for %T", "%F": "%Y-%m-%d stands for %F",
               "%R": "%H:%M stands for %R", "%e": "%d stands for %e", "%z": "a form has no offset: make moments of its texts, as by "
               "pandas.to_datetime(.., format=.., utc=True)", "%B": "make moments of its texts, as by pandas.to_datetime(.., format=..)"}
@@ -39,6 +43,8 @@ def digits_of_clocks(title: str, columns: Sequence[Column]) -> int:
 
 def of_time(found: Refusal, options: Mapping[str, Any], columns: Sequence[Column]) -> str:
     """A time that is joined of a day and a clock without its zeros, or of a day and hours with decimals."""
+    if found[3].lower() in NO_TIMES:
+        return f"{found[1]}: if it stands for what is missing, name it, by na={found[3]!r}"
     far = of_far(found, columns) if FAR.fullmatch(found[3]) else None
     if far is not None:
         return far
@@ -117,6 +123,9 @@ def day_of_all(column: Column) -> str | None:
 def of_number(found: Refusal, _: Mapping[str, Any], columns: Sequence[Column]) -> str:
     """A number that is text and written otherwise than it is read."""
     column, cell = next((column for column in columns if one_line(column.title) == found[2]), None), found[3]
+    odd = next((helps for form, helps in ODD_NUMBERS.items() if re.fullmatch(form, cell)), None)
+    if odd is not None:
+        return f"{found[1]}: {odd}"
     if column is None or is_number(column.values):
         return found[0]
     own = f"frame[{column.title!r}]"

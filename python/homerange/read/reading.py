@@ -34,7 +34,7 @@ from .clocks import refuse_other_clocks, refuse_summers
 from .fixes import Fixes, Reading, clock_of, is_known, is_of_classes, reading_of
 from .helps import with_help
 from .refusals import COLUMNS, check_cells, columns_read, refuse_text
-from .systems import are_degrees, check_sides, crs_named, options_of, refuse_beside_zone, refuse_elsewhere, scales_said
+from .systems import are_degrees, check_sides, crs_named, options_of, refuse_beside_zone, refuse_elsewhere, said_of_place, scales_said
 from .text import (
     NAME, Text, frame_given, has_times, in_own_words, plain, text_of_frame, with_clock_of, with_time_named, write_text, zones_in)
 from .tracks import NAMED, Whole, left_out, own_names, read_tracks, rows_of
@@ -47,7 +47,7 @@ DONE = (": left out", ": sorted by time")  # how lines end that say what was don
 READ, NOT_READ = "columns: ", "not read: "
 NO_TIME, OF_TIMES = "no column has a usual title for the time: ", ("since", "until", "max_speed", "every")
 TAKEN = (READ, "UTM coordinates are", "coordinates are those", "longitude and latitude are", "days and hours are",
-         "ranges are by group", NOT_READ, "times are read as ", "points of ", "by column ")
+         "ranges are by group", NOT_READ, "times are read as ", "points of ", "by column ", "near ")
 SUBJECT = re.compile("column [0-9]+ '.*' is read as (eastings|northings|longitudes|latitudes|times)[ :]")  # of titles with unknown words
 
 
@@ -392,7 +392,8 @@ def fixes_of(whole: Whole, record: Record, folder: Path, tz: str | None, crs: An
     fixes = Fixes({"animal": whole.per_fix(names), **when, "easting": east, "northing": north})
     middles = {name: (float(east[part].mean()), float(north[part].mean())) for name, part in zip(names, parts_of(whole.counts))}
     said = [as_arguments(in_words(line)) for line in record.said]
-    shown = [*notes, *said, *scales_said(crs, record.zone, middles), *encoding_asked(whole.names)]
+    place = [] if crs is None or record.zone else said_of_place(crs, east, north)
+    shown = [*notes, *said, *place, *scales_said(crs, record.zone, middles), *encoding_asked(whole.names)]
     fixes.reading = Reading(
         record.unit, record.zone, crs, clock, record.shift, tuple(shown), left_out(record, own), dict(zip(names, whole.counts)),
         {name: file for file, name in own.items()}, (folder / "tracks" / "split.txt").read_bytes())

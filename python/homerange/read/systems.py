@@ -5,14 +5,14 @@ from __future__ import annotations
 
 import re
 from math import isfinite
-from typing import TYPE_CHECKING, Any, Iterable, Mapping, NoReturn
+from typing import TYPE_CHECKING, Any, Container, Iterable, Mapping, NoReturn, Sequence
 
 import numpy
 import pandas
 from numpy.typing import NDArray
 
 from ..errors import refuse, shown
-from ..zones import REFUSED, TOLD, Scales, scales_of_crs, text_of_crs, zone_of, zone_of_crs
+from ..zones import CODE, REFUSED, TOLD, Scales, scales_of_crs, text_of_crs, zone_of, zone_of_crs
 from .cells import row_named
 
 if TYPE_CHECKING:
@@ -21,14 +21,25 @@ if TYPE_CHECKING:
 DEGREES = "EPSG:4326"  # longitude and latitude as the program takes them
 HELP = "project it first, as by frame.to_crs(frame.estimate_utm_crs())"
 HELP_NAMED = "make points of its columns and project these first, as by geopandas.points_from_xy({}, {}, crs=..) and to_crs"
+HELP_MULTIPOINT, HELP_VERTICES = "frame.explode() makes points of it", "its vertices are no fixes unless they say when"
 HELP_SCALE = "take a zone or a reference system of the place"
 PROJECTED = "longitude and latitude are projected into zone "  # how the program begins what it says of degrees that it projected
 HELP_LOCAL = "make {} of its coordinates, which need no CRS"
 METRE = {"metre", "meter", "metres", "meters", "m"}  # in small letters
 NEAR = 3  # degrees beside the area of a reference system in which it is used too: a shift is of 9 or more
+BESIDE = 1  # such degrees where its coordinates were not shifted
+ZONES = 'METHOD["Transverse Mercator'  # how systems are projected that whole countries use beside their own area, where areas tell more
 FIRST = re.compile("^by column [0-9]+ .*, which are not read, the first fix is near ([0-9.]+) ([EW]) ([0-9.]+) ([NS])$")
 MOST_AWAY = 20_000  # metres from there, of which the tenth of a degree is 11,000 at most
 RADIUS = (6_350_000, 6_400_000)  # metres between which that of a body is one of the Earth
+# What may be odd of two coordinates that lie elsewhere: whether they are exchanged, and what their signs are to be.
+ODD = (("{} and {} are exchanged, perhaps: give them the other way", True, (1, 1)),
+       ("{} and {} are without their signs, perhaps: give them a minus", False, (-1, -1)),
+       ("{} is without its sign, perhaps: give it a minus", False, (-1, 1)),
+       ("{1} is without its sign, perhaps: give it a minus", False, (1, -1)),
+       ("{} and {} are exchanged and without their signs, perhaps: give them the other way, and a minus", True, (-1, -1)))
+HELP_ELSEWHERE = "name the system that they have, or are {} and {} exchanged, or without their signs?"
+SIDES = "easting", "northing"
 TITLES = {"easting": "point easting", "northing": "point northing"}
 TITLES_OF_DEGREES = {"lon": "point longitude", "lat": "point latitude"}
 
@@ -166,7 +177,8 @@ def check_points(points: geopandas.GeoSeries, labels: pandas.Index) -> None:
     odd = numpy.flatnonzero((kinds != "Point") & ~(points.isna() | points.is_empty).to_numpy())
     if len(odd):
         shape = kinds[odd[0]].lower()
-        refuse(f"{row_named(labels, int(odd[0]))}: the geometry is a {shape}, and points are wanted", "number", int(odd[0]) + 1)
+        helps = HELP_MULTIPOINT if shape == "multipoint" else HELP_VERTICES
+        refuse(f"{row_named(labels, int(odd[0]))}: the geometry is a {shape}, and points are wanted: {helps}", "number", int(odd[0]) + 1)
     if points.crs is not None:
         check_body(points.crs)
 
@@ -187,8 +199,12 @@ def columns_of_points(points: geopandas.GeoSeries, labels: pandas.Index) -> tupl
     if not has_way(crs):
         refuse_way(crs)
     is_of_program = crs.equals(type(crs).from_user_input(DEGREES), ignore_axis_order=True)
-    said = [] if is_of_program else [f"points of {crs.name} are turned into longitude and latitude of WGS 84"]
-    return dict(zip(TITLES_OF_DEGREES, sides_of(points, DEGREES))), said
+    degrees = sides_of(points, DEGREES)
+    if is_of_program:
+        return dict(zip(TITLES_OF_DEGREES, degrees)), []
+    own = [side.dropna().to_numpy() for side in sides_of(points)]
+    place = said_of_place(crs, own[0], own[1], ("longitude", "latitude"))
+    return dict(zip(TITLES_OF_DEGREES, degrees)), [f"points of {crs.name} are turned into longitude and latitude of WGS 84", *place]
 
 
 def are_degrees(east: pandas.Series, north: pandas.Series) -> bool:
@@ -214,21 +230,79 @@ def side_of(values: pandas.Series, is_point: NDArray[numpy.bool_]) -> pandas.Ser
     return pandas.Series(found)
 
 
-def middle_outside(crs: Any, middle: tuple[float, float]) -> str | None:
+def middle_outside(crs: Any, middle: tuple[float, float], near: float = NEAR) -> str | None:
     """Where the middle of some coordinates lies, and for where their reference system is made, if that is far from each other; None
     where it is not, or not known."""
     area = getattr(crs, "area_of_use", None)
     if area is None:
         return None
+    at = degrees_of(crs, *middle)
+    where = place_said(*at) if is_place(*at) else "where that has no place"
+    return None if is_within(area, *at, near) else (f"{where}, and {crs.name} is of {placed(area.west, 'EW')} to {placed(area.east, 'EW')}, "
+                                                    f"{placed(area.south, 'NS')} to {placed(area.north, 'NS')}")
+
+
+def degrees_of(crs: Any, east: Any, north: Any) -> tuple[Any, Any]:
+    """Longitudes and latitudes of WGS 84 of coordinates; not finite where they have none."""
     from pyproj import Transformer
 
-    east, north = Transformer.from_crs(crs, DEGREES, always_xy=True).transform(*middle)
+    longitudes, latitudes = Transformer.from_crs(crs, DEGREES, always_xy=True).transform(east, north)
+    return longitudes, latitudes
+
+
+def is_place(longitude: float, latitude: float) -> bool:
+    return isfinite(longitude) and isfinite(latitude)
+
+
+def is_within(area: Any, longitudes: Any, latitudes: Any, near: float = BESIDE) -> Any:
+    """Whether places lie in the area of a reference system, or near it."""
     wide = (area.east - area.west) % 360 or 360
-    is_within = isfinite(east) and isfinite(north) and area.south - NEAR <= north <= area.north + NEAR and (
-        (east - area.west + NEAR) % 360 <= wide + 2 * NEAR)
-    place = f"near {placed(east, 'EW')} {placed(north, 'NS')}" if isfinite(east) and isfinite(north) else "where that has no place"
-    return None if is_within else (f"{place}, and {crs.name} is of {placed(area.west, 'EW')} to {placed(area.east, 'EW')}, "
-                                   f"{placed(area.south, 'NS')} to {placed(area.north, 'NS')}")
+    is_of_latitude = (area.south - near <= latitudes) & (latitudes <= area.north + near)
+    return is_of_latitude & ((longitudes - area.west + near) % 360 <= wide + 2 * near)
+
+
+def place_said(longitude: float, latitude: float) -> str:
+    """A place as it is said."""
+    return f"near {placed(longitude, 'EW')} {placed(latitude, 'NS')}"
+
+
+def said_of_place(crs: Any, east: NDArray[numpy.float64], north: NDArray[numpy.float64], sides: Sequence[str] = SIDES) -> list[str]:
+    """What is to be said of where fixes lie by their reference system: the middle of them, or else one that lies where the system
+    is made for. Refused if none does, unless it is a zone that has no other place for them."""
+    if not hasattr(crs, "area_of_use") or not len(east):
+        return []
+    middle = (float(east.min() + east.max()) / 2, float(north.min() + north.max()) / 2)
+    place, where = degrees_of(crs, *middle), middle_outside(crs, middle, BESIDE)
+    if where is not None:
+        several = degrees_of(crs, east, north)
+        near = numpy.flatnonzero(is_within(crs.area_of_use, *several))
+        place = place if not len(near) else (float(several[0][near[0]]), float(several[1][near[0]]))
+        helps = None if len(near) else help_elsewhere(crs, middle)
+        if not len(near) and (helps is not None or ZONES not in crs.to_wkt()):
+            refuse_crs(f"the fixes lie {where}: {(helps or HELP_ELSEWHERE).format(*sides)}")
+    return [f"{place_said(*place)} by {code_or_text(crs)}"] if is_place(*place) else []
+
+
+def code_or_text(crs: Any) -> str:
+    """A reference system by its code, or else as it is written."""
+    text = text_of_crs(crs)
+    code = CODE.fullmatch(text)
+    return code[1] if code else text
+
+
+def help_elsewhere(crs: Any, middle: tuple[float, float]) -> str | None:
+    """What is odd of coordinates that lie elsewhere than their reference system, if there is one such thing."""
+    likely = [text for text, is_exchanged, signs in ODD if lies_so(crs, middle, is_exchanged, signs)]
+    return likely[0] if len(likely) == 1 else None
+
+
+def lies_so(crs: Any, middle: tuple[float, float], is_exchanged: bool, signs: tuple[int, int] = (1, 1)) -> bool:
+    """Whether coordinates lie where their reference system is made for once they are exchanged, and those above 0 get these signs."""
+    if getattr(crs, "area_of_use", None) is None:
+        return False
+    east, north = middle[::-1] if is_exchanged else middle
+    has_signs = all(side > 0 or sign > 0 for side, sign in zip((east, north), signs))
+    return has_signs and bool(is_within(crs.area_of_use, *degrees_of(crs, east * signs[0], north * signs[1])))
 
 
 def placed(degrees: float, ways: str) -> str:
@@ -260,15 +334,19 @@ def scales_said(crs: Any, zone: str | None, middles: Mapping[str, tuple[float, f
     lost = next((name for name, own in scales.items() if not all(map(isfinite, own))), None)
     if lost is not None:
         refuse_crs(f"the fixes of {lost} have no place on this grid: {HELP_SCALE}", "scale")
-    return [line for what in Scales._fields for line in worst_said(what, {name: getattr(own, what) - 1 for name, own in scales.items()})]
+    turned = {name for name, middle in middles.items() if lies_so(crs, middle, True)}
+    return [line for what in Scales._fields
+            for line in worst_said(what, {name: getattr(own, what) - 1 for name, own in scales.items()}, turned)]
 
 
-def worst_said(what: str, away: Mapping[str, float]) -> list[str]:
-    """What is to be said of the animal whose areas or lengths are most wrong; refused where that is too much."""
+def worst_said(what: str, away: Mapping[str, float], turned: Container[str]) -> list[str]:
+    """What is to be said of the animal whose areas or lengths are most wrong; refused where that is too much, with what is asked of
+    areas of those that lie where the system is made for once their coordinates are exchanged."""
     name, worst = max(away.items(), key=lambda pair: abs(pair[1]))
     share = f"{abs(worst) * 100:.2f} %"
     text = (f"lengths of {name} differ by up to {share} by direction on this grid" if what == "lengths" else
             f"areas of {name} are {share} too {'great' if worst > 0 else 'small'} on this grid")
     if abs(worst) > getattr(REFUSED, what):
-        refuse_crs(f"{text}: {HELP_SCALE}", "scale")
+        asked = ", or are easting and northing exchanged?" if what == "areas" and name in turned else ""
+        refuse_crs(f"{text}: {HELP_SCALE}{asked}", "scale")
     return [text] if abs(worst) > getattr(TOLD, what) else []

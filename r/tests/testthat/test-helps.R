@@ -348,3 +348,22 @@ test_that("parts of a day that are joined to a day become moments by what is sai
   named <- data.frame(animal = "a", time = moments, x[c("easting", "northing")], srid = 31467)
   expect_error(home_range(named, quiet = TRUE), "name it, as by crs = \"EPSG:31467\", or remove it", fixed = TRUE)
 })
+
+test_that("cells that are no numbers, and words for a time that is missing, are refused with what helps", {
+  blanks <- "blanks are no missing cell: empty the cell"
+  cells <- list(c("\u22121.8", "the minus is another sign (U+2212): write -"), c(" ", blanks), c("   ", blanks),
+                c("15.805.895", "dots stand between thousands, or a spreadsheet took the decimal sign: mend the column"),
+                c("NaT", "if it stands for what is missing, name it, by na = \"NaT\""))
+  path <- file.path(local_folder(), "t.csv")
+  for (cell in cells) {
+    table <- transform(places, easting = c("500010", cell[1], "500040"))
+    said <- paste0("easting is '", cell[1], "' and not a number of up to 12 digits: ", cell[2])
+    refused(table, paste0("row 2: ", said), "number")
+    utils::write.csv(table, path, row.names = FALSE, fileEncoding = "UTF-8")
+    refused(path, paste0(path, ": record 2: ", said), "number")
+  }
+  for (word in c("NaT", "nan")) {
+    refused(transform(places, time = c("2024-05-01 10:00", word, "2024-05-01 12:00")),
+            paste0("row 2: time is '", word, "' and not a time such as 2024-05-01 00:30:04: if it stands for what is missing, name it, by na = \"", word, "\""), "time")
+  }
+})

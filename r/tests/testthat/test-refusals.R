@@ -170,3 +170,9 @@ test_that("values in place of a title, and several moments in place of one, are 
   refused("since has 2 values, and one moment is wanted, such as \"2024-05-01\"", since = as.Date(c("2024-05-01", "2024-05-02")))
   refused("until is missing, and a moment is wanted: leave until out where none is meant", until = as.POSIXct(NA))
 })
+
+test_that("x and y, which name columns in other tools, are refused beside a table", {
+  table <- data.frame(id = "A", lon = c(15.8, 15.9), lat = c(46.3, 46.4))
+  said <- "^x is the table: name columns of degrees by lon = \"lon\", lat = \"lat\", and those of metres by easting and northing$"
+  for (read in list(home_range, read_fixes)) expect_error(read(table, x = "lon", y = "lat"), said, class = "homerange_option_error")
+})

@@ -44,12 +44,12 @@ test_that("points in degrees are projected, whatever their geographic system is"
   skip_without_program()
   skip_if_not_installed("sf")
   wanted <- as.data.frame(read_fixes(hare_points(), quiet = TRUE))
-  for (crs in list(4326, 4269, "OGC:CRS84", "+proj=longlat +ellps=GRS80")) {
+  for (crs in list(4326, 4258, "OGC:CRS84", "+proj=longlat +ellps=GRS80")) {
     found <- read_fixes(sf::st_transform(hare_points(), crs), quiet = TRUE)
     expect_lte(max(abs(found$easting - wanted$easting), abs(found$northing - wanted$northing)), 1)
     expect_identical(facts_of(found)$zone, "33N")
   }
-  expect_message(read_fixes(sf::st_transform(hare_points(), 4269)), "points of NAD83 are turned into longitude and latitude of WGS 84",
+  expect_message(read_fixes(sf::st_transform(hare_points(), 4258)), "points of ETRS89 are turned into longitude and latitude of WGS 84",
                  class = "homerange_guessed_note")
 })
 
@@ -75,8 +75,8 @@ test_that("points that cannot be taken are refused, with the call that helps", {
   refused(sf::st_transform(hare_points(), 3857), "grow away from the equator: sf::st_transform(x, 32633)")
   refused(sf::st_as_sf(data.frame(x = 1, y = 2, z = 3), coords = c("x", "y", "z"), crs = 4978), "the CRS WGS 84 is not a plane one in metres: project the points first")
   shapes <- sf::st_sfc(sf::st_point(1:2), sf::st_linestring(diag(2)), crs = 32633)
-  refused(sf::st_set_geometry(hare_points()[1:2, ], shapes), "row 2: the geometry is a linestring, and points are wanted")
-  refused(sf::st_cast(hare_points(), "MULTIPOINT"), "row 1: the geometry is a multipoint, and points are wanted")
+  refused(sf::st_set_geometry(hare_points()[1:2, ], shapes), "row 2: the geometry is a linestring, and points are wanted: its vertices are no fixes unless they say when")
+  refused(sf::st_cast(hare_points(), "MULTIPOINT"), "row 1: the geometry is a multipoint, and points are wanted: sf::st_cast(x, \"POINT\") makes points of it")
   renamed <- hare_points()
   names(renamed)[3] <- "shape"
   refused(renamed, "x has no geometry where sf looks for it: sf::st_geometry(x) <- \"COLUMN\" says where it is")
@@ -407,4 +407,39 @@ test_that("a system is that of degrees beside the metres", {
                    " no fix is within 20 km of there: name the system of easting and northing, or leave out the columns that are not theirs")
     expect_error(read_fixes(table, crs = crs, quiet = TRUE), said, fixed = TRUE, class = "homerange_crs_error")
   }
+})
+
+# Fixes at a place as columns of eastings and northings.
+fixes_near <- function(easting, northing) {
+  data.frame(animal = "lynx", time = as.POSIXct("2024-05-01", tz = "UTC") + 3600 * 0:2, easting = easting + c(0, 200, 0), northing = northing + c(0, 0, 200))
+}
+
+test_that("fixes that lie elsewhere than their system are refused, and others are said to lie where they are", {
+  krovak <- "S-JTSK / Krovak East North is of 12.1 E to 22.6 E, 47.7 N to 51.1 N: easting and northing are"
+  said <- function(easting, northing, crs) read_fixes(fixes_near(easting, northing), crs = crs, quiet = TRUE)
+  refused <- function(easting, northing, crs, text) expect_error(said(easting, northing, crs), text, fixed = TRUE, class = "homerange_crs_error")
+  refused(742000, 1043000, 5514, paste("crs: the fixes lie near 41.5 E 68.5 N, and", krovak, "without their signs, perhaps: give them a minus"))
+  refused(1043000, 742000, 5514, paste(krovak, "exchanged and without their signs, perhaps: give them the other way, and a minus"))
+  refused(463000, 150000, 28992, "7.2 E, 50.8 N to 53.7 N: easting and northing are exchanged, perhaps: give them the other way")
+  refused(150000, 463000, 31370, "51.5 N: name the system that they have, or are easting and northing exchanged, or without their signs?")
+  near <- function(...) grep("^near ", facts_of(said(...))$notes, value = TRUE)
+  expect_identical(near(-742000, -1043000, 5514), "near 14.4 E 50.1 N by EPSG:5514")
+  expect_identical(kind_of_said("near 14.4 E 50.1 N by EPSG:5514"), "guessed")
+  expect_identical(near(400000, 4630000, 25833), "near 13.8 E 41.8 N by EPSG:25833")  # a zone that is used beside its area
+  expect_identical(near(562000, 5134000, 32633), character())  # of which the program says the place
+  both <- rbind(fixes_near(-742000, -1043000), fixes_near(742000, 1043000))
+  both$animal <- rep(c("lynx", "hare"), each = 3)
+  expect_identical(grep("^near ", facts_of(read_fixes(both, crs = 5514, quiet = TRUE))$notes, value = TRUE), "near 14.4 E 50.1 N by EPSG:5514")
+})
+
+test_that("degrees are held to the area of their system, and areas are asked whether the axes are exchanged", {
+  points <- function(longitude, latitude, crs) sf::st_as_sf(fixes_near(0, 0)[1:2], geometry = sf::st_sfc(lapply(0:2 / 100, function(by) sf::st_point(c(longitude, latitude + by))), crs = crs))
+  notes <- facts_of(read_fixes(points(14.5, 46.1, 4258), quiet = TRUE))$notes
+  expect_true("near 14.5 E 46.1 N by EPSG:4258" %in% notes)
+  expect_error(read_fixes(points(46.1, 14.5, 4258), quiet = TRUE), "longitude and latitude are exchanged, perhaps: give them the other way", class = "homerange_crs_error")
+  expect_error(read_fixes(points(110, 44, 4269), quiet = TRUE), "longitude is without its sign, perhaps: give it a minus", class = "homerange_crs_error")
+  away <- function(what, are_turned) line_of_worst(what, c(lynx = 1.2719), "lynx", are_turned)
+  helps <- "crs: areas of lynx are 127.19 % too great on this grid: take a zone or a reference system of the place"
+  expect_error(away("areas", TRUE), paste0(helps, ", or are easting and northing exchanged?"), fixed = TRUE, class = "homerange_scale_error")
+  expect_error(away("areas", FALSE), paste0("^", helps, "$"), class = "homerange_scale_error")
 })

@@ -127,3 +127,21 @@ test_that("ranges are equal whatever was drawn of them, and alike systems bind",
   expect_identical(nrow(rbind(one, again)), 18L)
   expect_identical(length(c(quietly(home_range(one)), quietly(home_range(again)))), 4L)
 })
+
+test_that("a file that is there is refused, unless it is said what becomes of it", {
+  testthat::skip_if_not_installed("sf")
+  fixes <- read_fixes(data.frame(animal = "hare", easting = c(0, 200, 0), northing = c(0, 0, 200)), quiet = TRUE)
+  for (own in list(fixes, home_range(fixes, quiet = TRUE))) {
+    path <- file.path(local_folder(), "a.gpkg")
+    write <- function(...) sf::st_write(own, path, ..., quiet = TRUE)
+    write()
+    expect_error(write(), paste(path, "is there already: append = FALSE writes its layer anew, and delete_dsn = TRUE the file"), fixed = TRUE, class = "homerange_option_error")
+    rows <- nrow(sf::st_read(path, quiet = TRUE))
+    write(append = FALSE)
+    write("other")
+    expect_error(write("other"), "is there already", class = "homerange_option_error")
+    expect_identical(sort(sf::st_layers(path)$name), c("a", "other"))
+    write(delete_dsn = TRUE)
+    expect_identical(nrow(sf::st_read(path, quiet = TRUE)), rows)
+  }
+})
