@@ -71,7 +71,7 @@ place_text <- function(degrees) {
 }
 
 # What is to be said of where fixes lie by their reference system: the middle of them, or else one that lies where the system is made
-# for. Refused if none does, unless it is a zone that has no other place for them.
+# for. Refused if none does, unless it is a zone, or degrees, that have no other place for them.
 line_of_place <- function(crs, at, sides = c("easting", "northing")) {
   at <- at[is.finite(rowSums(at)), , drop = FALSE]
   if (!nrow(at)) return(NULL)
@@ -89,7 +89,8 @@ line_of_place <- function(crs, at, sides = c("easting", "northing")) {
 # Refuses a reference system by which fixes lie elsewhere, with what is odd of their coordinates, if there is one such thing.
 refuse_place <- function(crs, area, place, middle, sides) {
   likely <- Filter(function(odd) lie_so(crs, middle, odd[[2]], odd[[3]]), odd_places)
-  if (length(likely) != 1 && grepl(projection_of_zones, crs$wkt, fixed = TRUE)) return(invisible())
+  is_used_beside <- isTRUE(sf::st_is_longlat(crs)) || grepl(projection_of_zones, crs$wkt, fixed = TRUE)
+  if (length(likely) != 1 && is_used_beside) return(invisible())
   ways <- list(west = c("E", "W"), east = c("E", "W"), south = c("N", "S"), north = c("N", "S"))
   own <- vapply(names(ways), function(side) placed(area[[side]], ways[[side]]), "")
   helps <- if (length(likely) == 1) likely[[1]][[1]] else help_elsewhere

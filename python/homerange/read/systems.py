@@ -268,7 +268,7 @@ def place_said(longitude: float, latitude: float) -> str:
 
 def said_of_place(crs: Any, east: NDArray[numpy.float64], north: NDArray[numpy.float64], sides: Sequence[str] = SIDES) -> list[str]:
     """What is to be said of where fixes lie by their reference system: the middle of them, or else one that lies where the system
-    is made for. Refused if none does, unless it is a zone that has no other place for them."""
+    is made for. Refused if none does, unless it is a zone, or degrees, that have no other place for them."""
     if not hasattr(crs, "area_of_use") or not len(east):
         return []
     middle = (float(east.min() + east.max()) / 2, float(north.min() + north.max()) / 2)
@@ -278,7 +278,7 @@ def said_of_place(crs: Any, east: NDArray[numpy.float64], north: NDArray[numpy.f
         near = numpy.flatnonzero(is_within(crs.area_of_use, *several))
         place = place if not len(near) else (float(several[0][near[0]]), float(several[1][near[0]]))
         helps = None if len(near) else help_elsewhere(crs, middle)
-        if not len(near) and (helps is not None or ZONES not in crs.to_wkt()):
+        if not len(near) and (helps is not None or not (crs.is_geographic or ZONES in crs.to_wkt())):
             refuse_crs(f"the fixes lie {where}: {(helps or HELP_ELSEWHERE).format(*sides)}")
     return [f"{place_said(*place)} by {code_or_text(crs)}"] if is_place(*place) else []
 
