@@ -13,7 +13,7 @@ test_that("a page has the numbers of its report", {
   page <- page_of(example_ranges(start = as.POSIXct("2024-05-01", tz = "UTC")), made = as.Date("2026-11-26"))
   expect_match(page, "<h1><bdi>Home ranges of fox, badger and otter</bdi></h1>", fixed = TRUE)
   expect_match(page, "<span data-field=\"period\">1 to 2 May 2024 (dates of UTC)</span>. Made on 26 Nov 2026 with homerange", fixed = TRUE)
-  row <- regmatches(page, regexpr("<tr data-animal=\"fox\">.*?</tr>", page, perl = TRUE))
+  row <- paste(regmatches(page, gregexpr("<tr data-animal=\"fox\">.*?</tr>", page, perl = TRUE))[[1]], collapse = "")
   for (cell in c("used\">60<", "hectares_100\">55.8<", "hectares_50\">17.4<", "last_quarter\">0.0 %<", "records\">\u2013<",
                  "median_interval\">30 min<", "days\">1.2<")) {
     expect_match(row, paste0("data-field=\"", cell), fixed = TRUE)
