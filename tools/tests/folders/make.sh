@@ -1,7 +1,7 @@
 #!/bin/sh
 # make.sh INTO: makes small honest folders of evidence, and their exports, in the new folder INTO: of one animal, of three with a
 # boundary and all that can be typed in, in decimetres, of a herd of 70 short tracks, and of a data frame by the packages for
-# Python and R. Those of the form that this copy writes are kept as form1 beside this script: CONTRIBUTING.md, The form of a
+# Python and R. Those of the form that this copy writes are kept as form2 beside this script: CONTRIBUTING.md, The form of a
 # folder. Of all but the first the pictures are taken out, since nothing looks at them. Needs geopandas, matplotlib, and the
 # package for R where R finds it.
 set -eu
