@@ -16,6 +16,7 @@ from .record import Record, escaped, unescaped
 from .report import TEXT
 
 FORM = 2  # of tables, layers, page, record and evidence.txt: another byte that their makers write takes another number
+FORMER = (1,)  # forms that older copies of this version wrote
 MOMENT = "%Y-%m-%dT%H:%M:%SZ"
 FIRST = ("form", "made", "program", "program sha256", "arguments", "unit", "levels", "runs", "commit", "sources", "logic")
 TYPED = ("title", "study", "species", "by", "reference", "purpose")

@@ -12,7 +12,7 @@ from pathlib import Path
 from shutil import copyfile, copytree
 from typing import Callable, Sequence
 
-from homerange.about import BESIDE, FORM, TYPED, About, read_about, text_of
+from homerange.about import BESIDE, FORM, FORMER, TYPED, About, read_about, text_of
 from homerange.errors import HomeRangeError
 from homerange.record import Record, read_record, record_text
 from homerange.zones import CODE
@@ -109,6 +109,11 @@ class Verification:
         return form_of(self.given / ABOUT) == FORM
 
     @cached_property
+    def is_false_form(self) -> bool:
+        """Whether the folder says a form that no copy of the version writes that it names."""
+        return self.release is not None and not self.is_older and form_of(self.given / ABOUT) not in (FORM, *FORMER)
+
+    @cached_property
     def about(self) -> About:
         """The record of the run; of one of another form what steps need."""
         path = self.given / ABOUT
@@ -194,7 +199,7 @@ class Verification:
         """Each field of the record of the run, made again of what else is known."""
         about = self.about
         if not self.is_of_this_form:
-            say = self.findings.failed if self.release and not self.is_older else self.findings.unseen
+            say = self.findings.failed if self.is_false_form else self.findings.unseen
             say(f"{ABOUT} as a whole: {self.other_form()}")
             return
         fault = self.record_fault(about)
@@ -460,9 +465,10 @@ class Verification:
 
     def other_form(self) -> str:
         form = form_of(self.given / ABOUT)
-        if self.release and not self.is_older:
+        if self.release and self.is_false_form:
             return f"it says form {form}, and version {self.release.version}, whose program it names, makes form {FORM}"
         by = f"version {self.release.version}" if self.release else "the version that made it"
+        by = by if not self.release or self.is_older else f"{by} that is older than this one"
         return f"made in form {form}, and this copy knows form {FORM}; use a copy of {by}"
 
     def others(self) -> None:

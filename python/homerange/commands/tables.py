@@ -105,8 +105,9 @@ def check_links(folder: Path) -> None:
 def words_of(options: argparse.Namespace, clock: str) -> Words:
     """What was typed in for the page."""
     zone_of_time(clock)
-    typed = {name: getattr(options, name) or None for name in TYPED}
-    return Words(**typed, boundary=options.over and options.over.stem, clock=clock)
+    return Words(title=options.title or None, study=options.study or None, species=options.species or None, by=options.by or None,
+                 reference=options.reference or None, purpose=options.purpose or None,
+                 boundary=options.over and options.over.stem, clock=clock)
 
 
 def main(name: str = "homerange-tables") -> None:
