@@ -109,6 +109,45 @@ def wrong_influences(text):
     return wrong, compared
 
 
+# The fixes of each track of which it is tested how its area grew: second, easting and northing.
+TRACKS = {
+    "DenseFirst": [(37 * i * i, *place) for i, place in enumerate(scattered(120, 0xFFF))],
+    "Drift": [(43_200 * i, 100 * i, i % 7 * 30) for i in range(80)],
+    "FarFirst": [(7_200 * i, *place) for i, place in enumerate([(100_000, 100_000), *scattered(100, 0xFF)[1:]])],
+    "Corners": [(86_400 * i, *[(0, 0), (100, 0), (100, 100), (0, 100)][i % 4]) for i in range(80)],
+    "One": [(5, 3, 4)],
+}
+
+
+def growth(track, level):
+    """The areas of all fixes, of the first three quarters of them and of the time, and since when the last one stayed."""
+    first, span = track[0][0], track[-1][0] - track[0][0]
+
+    def area(fixes):
+        return by_definition.percent_row([fix[1:] for fix in fixes], level)[2] if fixes else 0
+
+    def until(part, parts):
+        return area([fix for fix in track if parts * (fix[0] - first) <= part * span])
+
+    last, since = area(track), None
+    if last:
+        near = [20 * until(part, 20) >= 19 * last for part in range(1, 21)]
+        since = next(first + span * part // 20 for part in range(1, 21) if all(near[part - 1:]))
+    return last, area(track[:3 * len(track) // 4]), until(3, 4), since
+
+
+def wrong_growths(text):
+    """Each test of growth that is not by the definition; and how many were compared."""
+    compared, wrong = 0, []
+    for name, rows in re.findall(r"Track::(\w+),\s*\[(.*?)\n        \]", text, re.DOTALL):
+        for level, *areas, since in re.findall(r"\((\d+), (\d+), (\d+), (\d+), (?:None|Some\((\d+)\))\)", re.sub(r"(?<=\d)_(?=\d)", "", rows)):
+            expected = (*map(int, areas), int(since) if since else None)
+            wrong += [(name, level)] * (growth(TRACKS[name], int(level)) != expected)
+            compared += 1
+    assert compared == 3 * len(TRACKS), compared
+    return wrong, compared
+
+
 def texts_in(text, name):
     """The texts of bytes of a constant of a source."""
     value = re.search(rf"^(?:pub )?const {name}: .*?=\s*(.*?);$", text, re.DOTALL | re.MULTILINE)[1]
@@ -152,6 +191,8 @@ def main():
     print(f"{compared - len(wrong)} of {compared} rows of percent polygons agree", *wrong, sep="\n")
     wrong_fixes, influences = wrong_influences((crates / "test_page_influence/src/influence.rt").read_text())
     print(f"{influences - len(wrong_fixes)} of {influences} influences agree", *wrong_fixes, sep="\n")
+    wrong_growth, growths = wrong_growths((crates / "test_page_growth/src/growth.rt").read_text())
+    print(f"{growths - len(wrong_growth)} of {growths} growths agree", *wrong_growth, sep="\n")
     herd, worked = crates / "test_command/src/herd.rt", crates / "test_doubles/src/tracks.rt"
     made, kept = herd_of(herd.read_text(), worked.read_text())
     print(f"the herd's report is {'' if made == kept else 'not '}by the definitions")
@@ -159,7 +200,7 @@ def main():
     clouds = [[(draw.randrange(4), draw.randrange(4)) for _ in range(7)] for _ in range(60)]
     differing = [points for points in clouds if not are_one(points)]
     print(f"{len(clouds) - len(differing)} of {len(clouds)} clouds have one polygon", *differing, sep="\n")
-    sys.exit(bool(wrong or wrong_fixes or made != kept or differing))
+    sys.exit(bool(wrong or wrong_fixes or wrong_growth or made != kept or differing))
 
 
 if __name__ == "__main__":
