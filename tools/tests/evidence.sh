@@ -34,7 +34,7 @@ holds 'its report is that of homerange' cmp direct first/report.txt
 holds 'its checksums hold' sh -c 'cd first && sha256sum -c --strict SHA256SUMS'
 holds 'all files but that of the checksums' [ "$(wc -l <first/SHA256SUMS)" -eq 5 ]
 cat >wanted <<END
-form: 1
+form: 2
 program: $("$HOMERANGE" --version)
 program sha256: $(sha256sum <"$HOMERANGE" | cut -c -64)
 arguments: --percent 95,50 --unit m -- 'tracks/old boar.csv' tracks/vixen.csv

@@ -265,11 +265,11 @@ forgery.sealed("a text in an option", "not known: whether what was typed in is r
 forgery.sealed("lines of the export are skipped", "not known: what the first lines of the export say [(]1[)]: they were skipped",
                "the export cannot be split as split.txt says", file="tracks/split.txt", old="^zone,33N",
                new="zone,33N\noption,skip-lines,1")
-forgery.sealed("a form with a sign", "evidence.txt does not begin with the number of its form", file="evidence.txt", old="^form: 1", new="form: +1")
-forgery.sealed("a form of other digits", "evidence.txt does not begin with the number of its form", file="evidence.txt", old="^form: 1",
+forgery.sealed("a form with a sign", "evidence.txt does not begin with the number of its form", file="evidence.txt", old="^form: 2", new="form: +1")
+forgery.sealed("a form of other digits", "evidence.txt does not begin with the number of its form", file="evidence.txt", old="^form: 2",
                new="form: １")
-forgery.sealed("a blank behind the form", "evidence.txt does not begin with the number of its form", file="evidence.txt", old="^form: 1",
-               new="form: 1 ")
+forgery.sealed("a blank behind the form", "evidence.txt does not begin with the number of its form", file="evidence.txt", old="^form: 2",
+               new="form: 2 ")
 of_record("a count with zeros", "split.txt is in another form than such records have", old="^(track,Bor),", new=r"\1,00")
 of_record("line ends of another system", "does not fit there", old="\n", new="\r\n", count=0)
 forgery.sealed("an empty line in a record", "does not fit there", file="tracks/split.txt", old="^zone", new="\nzone")
