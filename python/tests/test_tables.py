@@ -361,8 +361,8 @@ def test_arguments_are_refused_as_one_error(words):
 
 
 @pytest.mark.parametrize("code, scale", [
-    (3395, "109.[0-9]* % too great"), (4087, "44.[0-9]* % too great"), (3832, "109.[0-9]* % too great"),
-    (32661, "3[0-9].[0-9]* % too great"), (32630, "5.[0-9]* % too great"), (3034, "[0-9.]* % too small"),
+    (3395, "109.[0-9]* % too great"), (4087, "44.[0-9]* % too great"), (32630, "5.[0-9]* % too great"),
+    (3034, "[0-9.]* % too small"),
 ])
 def test_a_reference_system_of_wrong_areas_is_refused(code, scale):
     geopandas = pytest.importorskip("geopandas")
@@ -377,11 +377,22 @@ def test_a_reference_system_of_wrong_areas_is_refused(code, scale):
         home_range(columns, crs=code)
 
 
+@pytest.mark.parametrize("code, area", [(3832, "98.7 E to 68.0 W, 60.0 S to 66.7 N"), (32661, "180.0 W to 180.0 E, 60.0 N to 90.0 N")])
+def test_points_that_lie_off_the_area_of_their_system_are_refused(code, area):
+    geopandas = pytest.importorskip("geopandas")
+    frame = frame_of(a=cloud(3, 20))
+    points = geopandas.GeoDataFrame(frame[["animal", "timestamp"]], crs=32633, geometry=geopandas.points_from_xy(
+        frame["easting"], frame["northing"])).to_crs(code)
+    with pytest.raises(FrameError, match=f"^crs: the fixes lie near 15.8 E 46.4 N, and .* is of {area}: ") as fault:
+        home_range(points)
+    assert fault.value.kind == "crs"
+
+
 def test_places_off_a_reference_system_are_refused():
     pytest.importorskip("pyproj")
-    with pytest.raises(FrameError, match="the fixes of a have no place on this grid: take a zone") as fault:
+    with pytest.raises(FrameError, match="^crs: the fixes lie where that has no place, and ETRS89-extended / LAEA Europe is of ") as fault:
         home_range(frame_of(a=[(46_000_000, 26_000_000), (46_000_100, 26_000_000)]), crs=3035)
-    assert fault.value.kind == "scale"
+    assert fault.value.kind == "crs"
 
 
 def test_equal_areas_are_taken():
