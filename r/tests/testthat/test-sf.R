@@ -178,11 +178,13 @@ test_that("a reference system of wrong areas is refused or said", {
   skip_if_not_installed("sf")
   points <- sf::st_as_sf(data.frame(id = "hare", x = 562000 + c(0, 200), y = 5134000), coords = c("x", "y"), crs = 32633)
   # By how many per cent areas are too great there: the squared secant of the latitude, and what PROJ's own factors say.
-  wrong <- c("3395" = "109.", "4087" = "44.", "3832" = "109.")
+  wrong <- c("3395" = "109.", "4087" = "44.")
   for (code in names(wrong)) {
     message <- paste0("areas of hare are ", wrong[[code]], "[0-9]*[.]?[0-9]* % too great on this grid")
     expect_error(read_fixes(sf::st_transform(points, as.numeric(code)), quiet = TRUE), message, class = "homerange_scale_error")
   }
+  expect_error(read_fixes(sf::st_transform(points, 3832), quiet = TRUE), "the fixes lie near 15.8 E 46.4 N, and .* is of 98.7 E to 68.0 W, 60.0 S to 66.7 N: ",
+               class = "homerange_crs_error")
   expect_message(read_fixes(sf::st_transform(points, 31468)), "areas of hare are 0[.][0-9]+ % too great on this grid",
                  class = "homerange_scale_note")
   expect_null(facts_of(read_fixes(sf::st_transform(points, 3035), quiet = TRUE))$zone)
