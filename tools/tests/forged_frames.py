@@ -41,7 +41,7 @@ def of_record(name, *wanted, old, new, forgeries=forgery):
 
 
 of_record("fewer fixes left out", f"{ANIMALS} 2 has 'Asta_1,360,.*', and 'Asta_1,359,.*' is wanted",
-          f"{PAGE} .*360.*, and .*359",
+          f"{PAGE} .*205 fixes.*, and .*204 fixes",
           old="^left,Asta_1,51,dop", new="left,Asta_1,50,dop")
 of_record("another reason", f"{ANIMALS} 1 has '.*left_outlier.*', and '.*left_zero.*' is wanted", PAGE,
           old="^left,Asta_1,1,outlier", new="left,Asta_1,1,zero")
@@ -84,7 +84,7 @@ of_record("what makes no tracks", NO_TOOL, old="^tool,homerange-split .*",
 of_record("what makes tracks says more", NO_TOOL, old="^(tool,.*)", new=r"\1 at the park")
 
 
-@forgery("fixes left out of another animal, in the record and in animals.csv", f"{PAGE} .*360.*, and .*359.* is wanted")
+@forgery("fixes left out of another animal, in the record and in animals.csv", f"{PAGE} .*205 fixes.*, and .*204 fixes.* is wanted")
 def _(hand):
     hand.record("^left,Asta_1,51,dop", "left,Asta_1,50,dop")
     hand.record("^left,Cilla,51,dop", "left,Cilla,52,dop")
@@ -103,7 +103,7 @@ def _(hand):
     hand.sealed_sub("evidence.txt", EXPORT, "")
 
 
-@forgery("no export in either record", f"{PAGE} .*in the export.*, and .*in the data.* is wanted",
+@forgery("no export in either record", f"{PAGE} .*of the export.*, and .*of the data.* is wanted",
          "not looked at: whether the tracks are those of the data frame that they were made of")
 def _(hand):
     hand.sealed_sub("evidence.txt", EXPORT, "export: none\n")

@@ -52,7 +52,7 @@ def cases():
     yield walks(["a", "b"], 40, (4_600_000, 2_600_000)), {"name": "europe", "crs": "EPSG:3035", "levels": "100,50"}
     yield walks(["a", "b"], 40, (700_000, 6_877_000)), {"name": "france", "crs": "EPSG:2154"}
     yield walks(["a", "b"], 40, (500_000, 100_000)), {"name": "slovenia", "crs": "EPSG:3794", "tz": "Europe/Ljubljana"}
-    yield walks(["a", "b"], 40, (500_000, 1_800_000)), {"name": "america", "crs": "ESRI:102003", "levels": "7"}
+    yield walks(["a", "b"], 40, (500_000, 400_000)), {"name": "america", "crs": "ESRI:102003", "levels": "7"}
     yield walks(["a", "b"], 40, here), {"name": "no code", "crs": GRID}
     yield walks(["a", "b"], 40, (-300, -400)), {"name": "local", "levels": "1,20,33,50,66,75,90,100"}
     yield walks(ODD, 35, here), {"name": "odd", "crs": "EPSG:32633"}

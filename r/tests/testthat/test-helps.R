@@ -350,6 +350,7 @@ test_that("parts of a day that are joined to a day become moments by what is sai
 })
 
 test_that("cells that are no numbers, and words for a time that is missing, are refused with what helps", {
+  skip_without_split()
   blanks <- "blanks are no missing cell: empty the cell"
   cells <- list(c("\u22121.8", "the minus is another sign (U+2212): write -"), c(" ", blanks), c("   ", blanks),
                 c("15.805.895", "dots stand between thousands, or a spreadsheet took the decimal sign: mend the column"),

@@ -417,6 +417,7 @@ fixes_near <- function(easting, northing) {
 }
 
 test_that("fixes that lie elsewhere than their system are refused, and others are said to lie where they are", {
+  skip_without_split()
   krovak <- "S-JTSK / Krovak East North is of 12.1 E to 22.6 E, 47.7 N to 51.1 N: easting and northing are"
   said <- function(easting, northing, crs) read_fixes(fixes_near(easting, northing), crs = crs, quiet = TRUE)
   refused <- function(easting, northing, crs, text) expect_error(said(easting, northing, crs), text, fixed = TRUE, class = "homerange_crs_error")
@@ -435,6 +436,7 @@ test_that("fixes that lie elsewhere than their system are refused, and others ar
 })
 
 test_that("degrees are held to the area of their system, and areas are asked whether the axes are exchanged", {
+  skip_without_split()
   points <- function(longitude, latitude, crs) sf::st_as_sf(fixes_near(0, 0)[1:2], geometry = sf::st_sfc(lapply(0:2 / 100, function(by) sf::st_point(c(longitude, latitude + by))), crs = crs))
   notes <- facts_of(read_fixes(points(14.5, 46.1, 4258), quiet = TRUE))$notes
   expect_true("near 14.5 E 46.1 N by EPSG:4258" %in% notes)

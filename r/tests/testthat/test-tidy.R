@@ -129,6 +129,7 @@ test_that("ranges are equal whatever was drawn of them, and alike systems bind",
 })
 
 test_that("a file that is there is refused, unless it is said what becomes of it", {
+  skip_without_split()
   testthat::skip_if_not_installed("sf")
   fixes <- read_fixes(data.frame(animal = "hare", easting = c(0, 200, 0), northing = c(0, 0, 200)), quiet = TRUE)
   for (own in list(fixes, home_range(fixes, quiet = TRUE))) {
